@@ -1,0 +1,3 @@
+-- The laws of no format.
+pub mod OneAnswer
+pub mod Tests

@@ -1,0 +1,132 @@
+-- Laws of runs of bytes: a run is told by the number that it makes. Assumes nothing.
+use Prim.Native.Nat.{ℕ, zero, suc, _+_, _*_, _-_, _≤_, _<_}
+use mathlib.Core.Path.{_≡_, refl, sym, _∙_, ap}
+use mathlib.Core.List.{List}
+use mathlib.Core.Bool.{Bool, true, false, _&&_}
+use native.Mathlib.Nat.{add-zero, zero-add}
+use native.Mathlib.Omega.{arith}
+use lib.ListN.{length, getD}
+use lib.Seq.{ext-getD}
+use lib.Dec.{leb, eqb}
+use borrow.Author.Tests.{le-leb, lt-leb, eq-eqb, ne-eqb, leb-true, eqb-true, eqb-false}
+use Rattle.laws.proofs.Tests.{tests, and-assoc, and-both, and-true, and-false}
+use Rattle.octets.specs.Bytes.{byteOf, digits, each, there, beOf, filled, sameBytes}
+use Rattle.octets.proofs.Readers.{be-whole}
+
+-- what the elements of a list of bytes are
+abbrev pub Bytes : List ℕ → Type 0
+Bytes s = (i : ℕ) → byteOf s i < 256
+
+-- ---- runs
+-- one run and the next
+pub each-join : (test : ℕ → Bool) (m n at : ℕ) → each test (m + n) at ≡ (each test m at && each test n (at + m))
+each-join test m zero at = rw add-zero (sym (and-true (each test m at)))
+each-join test m (suc n) at =
+    let e : m + suc n ≡ suc (m + n) = omega arith in
+    let f : at + (m + n) ≡ at + m + n = omega arith in
+    rw (e, f, each-join test m n at, and-assoc)
+
+-- the run from `at` to an end, after its first n places
+module _ (test : ℕ → Bool) (n end at : ℕ) (h : at + n ≤ end) where
+  part : each test (end - at) at ≡ (each test n at && each test (end - (at + n)) (at + n))
+  part =
+      let e : end - at ≡ n + (end - (at + n)) = omega arith in
+      ap (λ (k : ℕ). each test k at) e ∙ each-join test n (end - (at + n)) at
+
+  -- they pass
+  pub run-on : each test n at ≡ true → each test (end - at) at ≡ each test (end - (at + n)) (at + n)
+  run-on e = part ∙ rw e
+
+  -- they do not
+  pub run-off : each test n at ≡ false → each test (end - at) at ≡ false
+  run-off e = part ∙ rw e
+
+-- nothing is left
+pub run-end : (test : ℕ → Bool) (end at : ℕ) → end ≤ at → each test (end - at) at ≡ true
+run-end test end at h = let e : end - at ≡ 0 = omega arith in rw e
+
+pub each-one : (test : ℕ → Bool) (at : ℕ) → each test 1 at ≡ test at
+each-one test at = rw add-zero
+
+-- a run that passes, at each of its places
+pub each-at : (test : ℕ → Bool) (n at : ℕ) → each test n at ≡ true → (i : ℕ) → i < n → test (at + i) ≡ true
+each-at test zero at h i l = absurd (omega arith)
+each-at test (suc n) at h i l = go (eqb i n) refl (each-at test n at (p .0) i)
+  where
+    p : (each test n at ≡ true) × (test (at + n) ≡ true)
+    p = and-both (each test n at) (test (at + n)) h
+
+    go : (b : Bool) → eqb i n ≡ b → (i < n → test (at + i) ≡ true) → test (at + i) ≡ true
+    go true e before = rw (eqb-true i n e) (p .1)
+    go false e before = before (omega (arith, eqb-false i n e))
+
+-- a run passes where each of its places does
+pub each-all : (test : ℕ → Bool) (n at : ℕ) → ((i : ℕ) → i < n → test (at + i) ≡ true) → each test n at ≡ true
+each-all test zero at h = refl
+each-all test (suc n) at h = rw (each-all test n at (λ i l. h i (omega arith)), h n (omega arith))
+
+-- ---- two numbers of n digits are equal where their digits are
+two-digits : (a b x y : ℕ) → x < 256 → y < 256 → eqb (a * 256 + x) (b * 256 + y) ≡ (eqb a b && eqb x y)
+two-digits a b x y hx hy = go (eqb a b) (eqb x y) refl refl
+  where
+    go : (p q : Bool) → eqb a b ≡ p → eqb x y ≡ q → eqb (a * 256 + x) (b * 256 + y) ≡ (p && q)
+    go true true e f = omega (tests, eqb-true a b e, eqb-true x y f)
+    go true false e f = omega (tests, eqb-true a b e, eqb-false x y f)
+    go false true e f = omega (tests, eqb-false a b e)
+    go false false e f = omega (tests, eqb-false a b e)
+
+pub same-digits : (f g : ℕ → ℕ) → ((i : ℕ) → f i < 256) → ((i : ℕ) → g i < 256) → (n at : ℕ)
+    → eqb (digits f n at) (digits g n at) ≡ each (λ i. eqb (f i) (g i)) n at
+same-digits f g hf hg zero at = refl
+same-digits f g hf hg (suc n) at =
+    two-digits (digits f n at) (digits g n at) (f (at + n)) (g (at + n)) (hf (at + n)) (hg (at + n))
+    ∙ rw (same-digits f g hf hg n at)
+
+-- ---- runs told by one number
+module _ (n : ℕ) (s : List ℕ) (at : ℕ) (bytes : Bytes s) (h : at + n ≤ length s) where
+  -- each byte is v
+  pub word-is : (v : ℕ) → v < 256 → each (λ i. eqb (byteOf s i) v) n at ≡ eqb (beOf n s at) (digits (λ _. v) n at)
+  word-is v small = rw (be-whole n s at h) (sym (same-digits (byteOf s) (λ _. v) bytes (λ _. small) n at))
+
+  -- the bytes are those of another list
+  pub word-same : (t : List ℕ) → Bytes t → at + n ≤ length t
+      → each (λ i. eqb (byteOf s i) (byteOf t i)) n at ≡ eqb (beOf n s at) (beOf n t at)
+  word-same t bytes' h' = rw (be-whole n s at h, be-whole n t at h') (sym (same-digits (byteOf s) (byteOf t) bytes bytes' n at))
+
+  pub filled-word : (v : ℕ) → v < 256 → filled v n s at ≡ eqb (beOf n s at) (digits (λ _. v) n at)
+  unfolding filled
+  filled-word v small = rw (le-leb _ _ h) (word-is v small)
+
+pub filled-short : (v n : ℕ) (s : List ℕ) (at : ℕ) → there n s at ≡ false → false ≡ filled v n s at
+unfolding filled
+filled-short v n s at h = rw h
+
+-- all of a list
+pub filled-whole : (v : ℕ) (s : List ℕ) → filled v (length s) s 0 ≡ each (λ i. eqb (byteOf s i) v) (length s) 0
+unfolding filled
+filled-whole v s = rw (le-leb (0 + length s) (length s) (omega arith))
+
+-- one filled run and the next
+pub filled-join : (v m n : ℕ) (s : List ℕ) (at : ℕ) → filled v (m + n) s at ≡ (filled v m s at && filled v n s (at + m))
+unfolding filled
+filled-join v m n s at = go (leb (at + m + n) (length s)) refl
+  where
+    e : at + (m + n) ≡ at + m + n
+    e = omega arith
+
+    go : (b : Bool) → leb (at + m + n) (length s) ≡ b → (leb (at + (m + n)) (length s) && each (λ i. eqb (byteOf s i) v) (m + n) at)
+        ≡ ((leb (at + m) (length s) && each (λ i. eqb (byteOf s i) v) m at) && (leb (at + m + n) (length s) && each (λ i. eqb (byteOf s i) v) n (at + m)))
+    go true h = rw (e, h, le-leb (at + m) (length s) (omega (arith, leb-true (at + m + n) (length s) h))) (each-join (λ i. eqb (byteOf s i) v) m n at)
+    go false h = rw (e, h) (sym (and-false (leb (at + m) (length s) && each (λ i. eqb (byteOf s i) v) m at)))
+
+-- ---- equal runs
+pub same-bytes : (a b : List ℕ) → sameBytes a b ≡ true → a ≡ b
+unfolding sameBytes
+same-bytes a b h =
+    let p = and-both (eqb (length a) (length b)) (each (λ i. eqb (byteOf a i) (byteOf b i)) (length a) 0) h in
+    ext-getD 0 a b (eqb-true _ _ (p .0)) (λ i l. eqb-true _ _ (rw zero-add at (each-at (λ i. eqb (byteOf a i) (byteOf b i)) (length a) 0 (p .1) i l)))
+
+pub bytes-same : (a b : List ℕ) → a ≡ b → sameBytes a b ≡ true
+unfolding sameBytes
+bytes-same a b e =
+    rw (← e, eq-eqb (length a) (length a) refl) (each-all (λ i. eqb (byteOf a i) (byteOf a i)) (length a) 0 (λ i l. eq-eqb (byteOf a (0 + i)) (byteOf a (0 + i)) refl))

@@ -1,0 +1,51 @@
+use Prim.Native.Nat.{_+_, _≤_, _<_}
+use mathlib.Core.Path.{_≡_}
+use native.Mathlib.Nat.{add-zero}
+use native.Mathlib.Omega.{arith}
+use lib.ListN.{length}
+use Rattle.octets.proofs.Readers.{be-short, be-whole}
+use borrow.Author.Needs.{needs}
+use Rattle.octets.proofs.be32.Statement.{statement}
+use Rattle.octets.proofs.be32.Tie as tie
+
+returns : tie.Need-returns
+returns c =
+    let a = c .before .before .args in
+    be-short 4 (a .s .now) (a .at) (omega arith)
+
+returns-2 : tie.Need-returns-2
+returns-2 c =
+    let a = c .before .before .before .args in
+    be-short 4 (a .s .now) (a .at) (omega arith)
+
+returns-3 : tie.Need-returns-3
+returns-3 c =
+    let a = c .before .before .before .before .before .before .before .before .before .before .before .args in
+    rw (be-whole 4 (a .s .now) (a .at) (omega arith), add-zero) (omega arith)
+
+pub be32-spec : {M : Type 1} → statement M
+be32-spec =
+    tie.close
+    (tie.spec
+    returns
+    (λ c. search needs)
+    returns-2
+    (λ c. search needs)
+    (λ c κs. search needs)
+    (λ c. search needs)
+    (λ c. search needs)
+    (λ c. search needs)
+    (λ c κs. search needs)
+    (λ c. search needs)
+    (λ c. search needs)
+    (λ c. search needs)
+    (λ c. search needs)
+    (λ c κs. search needs)
+    (λ c. search needs)
+    (λ c. search needs)
+    (λ c. search needs)
+    (λ c. search needs)
+    (λ c κs. search needs)
+    (λ c. search needs)
+    (λ c. search needs)
+    returns-3)

@@ -1,0 +1,169 @@
+// Numbers and runs in lent bytes, the highest byte first. Each function answers for every slice and
+// every place, and none asks anything of its caller.
+ghost use mathlib.Core.Path.{_≡_};
+ghost use Prim.Native.Nat.{_<_};
+ghost use lib.ListN.{length};
+ghost use Rattle.octets.specs.Bytes.{byteOf, there, beOf, filled, sameBytes};
+
+// The byte at `at`, or 0 past the end.
+pub fn byte(s: &[u8], at: usize) -> u8
+    ensures { λ r. ⌜ r ≡ byteOf (now (s .entry)) at ⌝ }
+{
+    if at < s.len() { s[at] } else { 0 }
+}
+
+// A byte as a wider number.
+fn wide(x: u8) -> u64
+    ensures { λ r. ⌜ (r ≡ x) × (r < 256) ⌝ }
+{
+    x as u64
+}
+
+// The number of two bytes at `at`, or 0 unless both are there.
+pub fn be16(s: &[u8], at: usize) -> u16
+    ensures { λ r. ⌜ r ≡ beOf 2 (now (s .entry)) at ⌝ }
+{
+    if s.len() < 2 {
+        return 0;
+    }
+    if s.len() - 2 < at {
+        return 0;
+    }
+    (wide(s[at]) * 256 + wide(s[at + 1])) as u16
+}
+
+// The number of four bytes at `at`, or 0 unless all are there.
+pub fn be32(s: &[u8], at: usize) -> u32
+    ensures { λ r. ⌜ r ≡ beOf 4 (now (s .entry)) at ⌝ }
+{
+    if s.len() < 4 {
+        return 0;
+    }
+    if s.len() - 4 < at {
+        return 0;
+    }
+    (wide(s[at]) * 16777216
+        + wide(s[at + 1]) * 65536
+        + wide(s[at + 2]) * 256
+        + wide(s[at + 3])) as u32
+}
+
+// The number of eight bytes at `at`, or 0 unless all are there.
+pub fn be64(s: &[u8], at: usize) -> u64
+    ensures { λ r. ⌜ r ≡ beOf 8 (now (s .entry)) at ⌝ }
+{
+    if s.len() < 8 {
+        return 0;
+    }
+    if s.len() - 8 < at {
+        return 0;
+    }
+    let a = wide(s[at]) * 16777216
+        + wide(s[at + 1]) * 65536
+        + wide(s[at + 2]) * 256
+        + wide(s[at + 3]);
+    let b = wide(s[at + 4]) * 16777216
+        + wide(s[at + 5]) * 65536
+        + wide(s[at + 6]) * 256
+        + wide(s[at + 7]);
+    a * 4294967296 + b
+}
+
+// Whether the n bytes at `at` are all there.
+fn has(s: &[u8], at: usize, n: usize) -> bool
+    ensures { λ r. ⌜ r ≡ there n (now (s .entry)) at ⌝ }
+{
+    if s.len() < n {
+        return false;
+    }
+    at <= s.len() - n
+}
+
+// Whether the two bytes at `at` are there and are 0.
+pub fn blank2(s: &[u8], at: usize) -> bool
+    ensures { λ r. ⌜ r ≡ filled 0 2 (now (s .entry)) at ⌝ }
+{
+    if has(s, at, 2) {
+        be16(s, at) == 0
+    } else {
+        false
+    }
+}
+
+// Whether the four bytes at `at` are there and are 0.
+pub fn blank4(s: &[u8], at: usize) -> bool
+    ensures { λ r. ⌜ r ≡ filled 0 4 (now (s .entry)) at ⌝ }
+{
+    if has(s, at, 4) {
+        be32(s, at) == 0
+    } else {
+        false
+    }
+}
+
+// Whether the eight bytes at `at` are there and are 0.
+pub fn blank8(s: &[u8], at: usize) -> bool
+    ensures { λ r. ⌜ r ≡ filled 0 8 (now (s .entry)) at ⌝ }
+{
+    if has(s, at, 8) {
+        be64(s, at) == 0
+    } else {
+        false
+    }
+}
+
+// Whether the eight bytes at `at` are there and are 255.
+pub fn full8(s: &[u8], at: usize) -> bool
+    ensures { λ r. ⌜ r ≡ filled 255 8 (now (s .entry)) at ⌝ }
+{
+    if has(s, at, 8) {
+        be64(s, at) == 18446744073709551615
+    } else {
+        false
+    }
+}
+
+// Whether every byte of s is 0.
+pub fn blank(s: &[u8]) -> bool
+    ensures { λ r. ⌜ r ≡ filled 0 (length (now (s .entry))) (now (s .entry)) 0 ⌝ }
+{
+    let mut at = 0;
+    while at < s.len() {
+        if has(s, at, 8) {
+            if be64(s, at) != 0 {
+                return false;
+            }
+            at += 8;
+        } else {
+            if s[at] != 0 {
+                return false;
+            }
+            at += 1;
+        }
+    }
+    true
+}
+
+// Whether a and b hold the same bytes.
+pub fn same(a: &[u8], b: &[u8]) -> bool
+    ensures { λ r. ⌜ r ≡ sameBytes (now (a .entry)) (now (b .entry)) ⌝ }
+{
+    if a.len() != b.len() {
+        return false;
+    }
+    let mut at = 0;
+    while at < a.len() {
+        if has(a, at, 8) {
+            if be64(a, at) != be64(b, at) {
+                return false;
+            }
+            at += 8;
+        } else {
+            if byte(a, at) != byte(b, at) {
+                return false;
+            }
+            at += 1;
+        }
+    }
+    true
+}
