@@ -1,0 +1,23 @@
+use Rattle.property.specs.Layout.{decodeOf, only}
+use mathlib.Core.Path.{sym, _∙_}
+use borrow.Author.Tests.{eq-eqb, ne-eqb}
+use Rattle.octets.proofs.Runs.{filled-join}
+use borrow.Author.Needs.{needs}
+use Rattle.property.proofs.decode.Statement.{statement}
+use Rattle.property.proofs.decode.Tie as tie
+
+returns : tie.Need-returns
+unfolding decodeOf only
+returns c =
+    rw (ne-eqb _ _ (c .if1 .taken))
+
+returns-2 : tie.Need-returns-2
+unfolding decodeOf
+returns-2 c =
+    let u = c .before .before in
+    rw (c .kept .ensures, c .before .by-form .ensures, u .blank4 .ensures, u .before .blank2 .ensures, filled-join 0 2 4 _ 2, eq-eqb _ _ (u .before .before .if1 .left))
+
+pub decode-spec : {M : Type 1} → statement M
+decode-spec =
+    tie.close
+    (tie.spec returns (λ c κs. search needs) (λ c κs. search needs) (λ c κs. search needs) (λ c κs. search needs) returns-2)

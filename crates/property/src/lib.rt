@@ -1,0 +1,211 @@
+// What a property of a record says: one value of ten cases, read from its bytes, and the check of a
+// record's eight properties. Each function answers for every slice, and none asks anything of its caller.
+ghost use mathlib.Core.Path.{_≡_};
+ghost use Rattle.property.specs.Value.{isMention};
+ghost use mathlib.Core.Bool.{_&&_};
+ghost use Prim.Native.Nat.{_≤_};
+ghost use lib.ListN.{length};
+ghost use Rattle.property.specs.Layout.{unused, signed, only, withDetail, nils, inUnits, unmentionedOf, nilOf, codeOf, numberOf, lengthOf, pointOf, formReading, decodeOf};
+
+mod double;
+
+use crate::double::double;
+use crate::double::is_finite;
+use crate::double::within;
+use octets::be16;
+use octets::be32;
+use octets::be64;
+use octets::blank2;
+use octets::blank4;
+use octets::blank8;
+use octets::byte;
+
+// The unit of a length.
+pub enum LengthUnit {
+    M,
+    FT,
+    KM,
+    NM,
+}
+
+// A point, in degrees.
+pub struct Position {
+    pub latitude: f64,
+    pub longitude: f64,
+}
+
+// What a property says.
+pub enum Value {
+    // The record does not mention the property.
+    Unmentioned,
+    // Nil, with its reason.
+    Inapplicable,
+    Missing,
+    Template,
+    Unknown,
+    Withheld,
+    Code(u16),
+    Number(i32),
+    Length(f64, LengthUnit),
+    Point(Position),
+}
+
+// A value, or that the bytes break the layout.
+pub enum Decoded {
+    Good(Value),
+    Broken,
+}
+
+// d where the test holds.
+fn kept(ok: bool, d: Decoded) -> Decoded
+    ensures { λ r. ⌜ r ≡ only ok d ⌝ }
+{
+    if ok { d } else { Decoded::Broken }
+}
+
+// Whether bytes 12 to 23 are zero.
+fn unused_from_12(p: &[u8]) -> bool
+    ensures { λ r. ⌜ r ≡ unused 12 23 (now (p .entry)) ⌝ }
+{
+    blank4(p, 12) & blank8(p, 16)
+}
+
+// Whether bytes 10 to 23 are zero.
+fn unused_from_10(p: &[u8]) -> bool
+    ensures { λ r. ⌜ r ≡ unused 10 23 (now (p .entry)) ⌝ }
+{
+    blank2(p, 10) & unused_from_12(p)
+}
+
+// Whether bytes 8 to 23 are zero.
+fn unused_from_8(p: &[u8]) -> bool
+    ensures { λ r. ⌜ r ≡ unused 8 23 (now (p .entry)) ⌝ }
+{
+    blank8(p, 8) & blank8(p, 16)
+}
+
+// Form 0: not mentioned.
+fn unmentioned(p: &[u8]) -> Decoded
+    ensures { λ r. ⌜ r ≡ unmentionedOf (now (p .entry)) ⌝ }
+{
+    let plain = byte(p, 1) == 0;
+    kept(plain & unused_from_8(p), Decoded::Good(Value::Unmentioned))
+}
+
+// The nil of a detail.
+fn nil_of(detail: u8) -> Decoded
+    ensures { λ r. ⌜ r ≡ withDetail detail nils ⌝ }
+{
+    match detail {
+        1 => Decoded::Good(Value::Inapplicable),
+        2 => Decoded::Good(Value::Missing),
+        3 => Decoded::Good(Value::Template),
+        4 => Decoded::Good(Value::Unknown),
+        5 => Decoded::Good(Value::Withheld),
+        _ => Decoded::Broken,
+    }
+}
+
+// Form 1: nil.
+fn nil(p: &[u8]) -> Decoded
+    ensures { λ r. ⌜ r ≡ nilOf (now (p .entry)) ⌝ }
+{
+    kept(unused_from_8(p), nil_of(byte(p, 1)))
+}
+
+// Form 2: a code.
+fn code(p: &[u8]) -> Decoded
+    ensures { λ r. ⌜ r ≡ codeOf (now (p .entry)) ⌝ }
+{
+    let plain = byte(p, 1) == 0;
+    kept(
+        plain & unused_from_10(p),
+        Decoded::Good(Value::Code(be16(p, 8))),
+    )
+}
+
+// 32 bits in two's complement.
+fn signed_of(n: u32) -> i32
+    ensures { λ r. ⌜ r ≡ signed n ⌝ }
+{
+    if n < 2147483648 {
+        n as i32
+    } else {
+        -1 - ((4294967295 - n) as i32)
+    }
+}
+
+// Form 3: a whole number.
+fn number(p: &[u8]) -> Decoded
+    ensures { λ r. ⌜ r ≡ numberOf (now (p .entry)) ⌝ }
+{
+    let plain = byte(p, 1) == 0;
+    let n = signed_of(be32(p, 8));
+    kept(plain & unused_from_12(p), Decoded::Good(Value::Number(n)))
+}
+
+// A length in the unit of a detail.
+fn in_unit(x: f64, detail: u8) -> Decoded
+    ensures { λ r. ⌜ r ≡ withDetail detail (inUnits x) ⌝ }
+{
+    match detail {
+        1 => Decoded::Good(Value::Length(x, LengthUnit::M)),
+        2 => Decoded::Good(Value::Length(x, LengthUnit::FT)),
+        3 => Decoded::Good(Value::Length(x, LengthUnit::KM)),
+        4 => Decoded::Good(Value::Length(x, LengthUnit::NM)),
+        _ => Decoded::Broken,
+    }
+}
+
+// Form 4: a length.
+fn length_in_unit(p: &[u8]) -> Decoded
+    ensures { λ r. ⌜ r ≡ lengthOf (now (p .entry)) ⌝ }
+{
+    let bits = be64(p, 8);
+    kept(
+        is_finite(bits) & blank8(p, 16),
+        in_unit(double(bits), byte(p, 1)),
+    )
+}
+
+// Form 5: a point.
+fn point(p: &[u8]) -> Decoded
+    ensures { λ r. ⌜ r ≡ pointOf (now (p .entry)) ⌝ }
+{
+    let plain = byte(p, 1) == 0;
+    let latitude = double(be64(p, 8));
+    let longitude = double(be64(p, 16));
+    kept(
+        plain & (within(latitude, 90.0) & within(longitude, 180.0)),
+        Decoded::Good(Value::Point(Position {
+            latitude,
+            longitude,
+        })),
+    )
+}
+
+// The value by the form in byte 0.
+fn by_form(p: &[u8]) -> Decoded
+    ensures { λ r. ⌜ r ≡ formReading (now (p .entry)) ⌝ }
+{
+    let form = byte(p, 0);
+    match form {
+        0 => unmentioned(p),
+        1 => nil(p),
+        2 => code(p),
+        3 => number(p),
+        4 => length_in_unit(p),
+        5 => point(p),
+        _ => Decoded::Broken,
+    }
+}
+
+// The value of the 24 bytes of a property. Bytes of any other number break the layout.
+pub fn decode(p: &[u8]) -> Decoded
+    ensures { λ r. ⌜ r ≡ decodeOf (now (p .entry)) ⌝ }
+{
+    if p.len() != 24 {
+        return Decoded::Broken;
+    }
+    kept(blank2(p, 2) & blank4(p, 4), by_form(p))
+}
