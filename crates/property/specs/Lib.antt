@@ -1,2 +1,4 @@
 pub mod Value
 pub mod Layout
+pub mod Eight
+pub mod Examples

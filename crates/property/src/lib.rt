@@ -3,9 +3,11 @@
 ghost use mathlib.Core.Path.{_≡_};
 ghost use Rattle.property.specs.Value.{isMention};
 ghost use mathlib.Core.Bool.{_&&_};
+ghost use mathlib.Core.Bool.{cond};
 ghost use Prim.Native.Nat.{_≤_};
-ghost use lib.ListN.{length};
+ghost use lib.ListN.{length, drop};
 ghost use Rattle.property.specs.Layout.{unused, signed, only, withDetail, nils, inUnits, unmentionedOf, nilOf, codeOf, numberOf, lengthOf, pointOf, formReading, decodeOf};
+ghost use Rattle.property.specs.Eight.{eightOf};
 
 mod double;
 
@@ -54,6 +56,13 @@ pub enum Value {
 pub enum Decoded {
     Good(Value),
     Broken,
+}
+
+// What the check of a record's eight properties finds: the place of the first that breaks the layout,
+// or, where none does, how many are mentioned.
+pub enum Eight {
+    FirstBad(usize),
+    Mentions(usize),
 }
 
 // d where the test holds.
@@ -208,4 +217,68 @@ pub fn decode(p: &[u8]) -> Decoded
         return Decoded::Broken;
     }
     kept(blank2(p, 2) & blank4(p, 4), by_form(p))
+}
+
+// Whether a value is a mention: each is but `Unmentioned`.
+pub fn is_mention(v: Value) -> bool
+    ensures { λ r. ⌜ r ≡ isMention v ⌝ }
+{
+    match v {
+        Value::Unmentioned => false,
+        Value::Inapplicable => true,
+        Value::Missing => true,
+        Value::Template => true,
+        Value::Unknown => true,
+        Value::Withheld => true,
+        Value::Code(_) => true,
+        Value::Number(_) => true,
+        Value::Length(_, _) => true,
+        Value::Point(_) => true,
+    }
+}
+
+// How many mentions a value is.
+fn tally(v: Value) -> usize
+    ensures { λ r. ⌜ r ≡ cond (isMention v) 1 0 ⌝ }
+{
+    if is_mention(v) { 1 } else { 0 }
+}
+
+// The place `stride` bytes after `at`, or the end where that is nearer.
+fn past(bytes: &[u8], at: usize, stride: usize) -> usize
+    requires { ⌜ at ≤ length (now bytes) ⌝ }
+    ensures within { λ r. ⌜ r ≤ length (now (bytes .entry)) ⌝ }
+    ensures rest { λ r. ⌜ drop r (now (bytes .entry)) ≡ drop stride (drop at (now (bytes .entry))) ⌝ }
+{
+    if bytes.len() - at < stride {
+        bytes.len()
+    } else {
+        at + stride
+    }
+}
+
+// What the check of eight properties of `stride` bytes each finds. A property that is not all there
+// breaks the layout.
+pub fn check_eight(bytes: &[u8], stride: usize) -> Eight
+    ensures { λ r. ⌜ r ≡ eightOf stride (now (bytes .entry)) ⌝ }
+{
+    if stride < 24 {
+        return Eight::FirstBad(0);
+    }
+    let mut at = 0;
+    let mut mentioned = 0;
+    let mut i = 0;
+    while i < 8 {
+        if bytes.len() - at < 24 {
+            return Eight::FirstBad(i);
+        }
+        let end = at + 24;
+        let Decoded::Good(value) = decode(&bytes[at..end]) else {
+            return Eight::FirstBad(i);
+        };
+        mentioned += tally(value);
+        at = past(bytes, at, stride);
+        i += 1;
+    }
+    Eight::Mentions(mentioned)
 }

@@ -1,0 +1,74 @@
+-- The check of the eight properties, one property at a time. Assumes nothing.
+use Prim.Native.Nat.{ℕ, suc, _+_, _-_, _≤_, _<_}
+use mathlib.Core.Path.{_≡_, refl, sym, _∙_, ap}
+use mathlib.Core.List.{List, [], _∷_}
+use mathlib.Core.Bool.{Bool, true, false, cond}
+use native.Mathlib.Nat.{zero-add, add-zero, add-assoc}
+use native.Mathlib.Omega.{arith}
+use lib.ListN.{length, take, drop, length-take}
+use lib.Seq.{take-take, getD-take}
+use Rattle.laws.specs.Lists.{pieces, any, count, first}
+use Rattle.octets.specs.Bytes.{byteOf}
+use Rattle.property.specs.Value.{mentions, isMention}
+use Rattle.property.specs.Layout.{decodeOf}
+use Rattle.property.specs.Eight.{propertiesOf, isBroken, breaks, mentioned, found, eightOf}
+use Rattle.property.specs.declared.Value.{Value}
+use Rattle.property.specs.declared.Decoded.the-variants.{Good, Broken}
+use Rattle.property.specs.declared.Eight.{Eight}
+use Rattle.property.specs.declared.Eight.the-variants.{FirstBad, Mentions}
+use Rattle.property.proofs.Forms.{decode-form, decode-sized}
+
+-- what is found from property i on, m being mentioned before it
+abbrev pub foundFrom : ℕ → ℕ → List (List ℕ) → Eight
+foundFrom i m ps = cond (any breaks ps) (FirstBad (i + first breaks ps)) (Mentions (m + count mentioned ps))
+
+pub found-start : (stride : ℕ) (bytes : List ℕ) → eightOf stride bytes ≡ foundFrom 0 0 (pieces stride 8 bytes)
+unfolding eightOf propertiesOf
+found-start stride bytes = rw (zero-add, zero-add)
+
+pub found-bad : (i m : ℕ) (p : List ℕ) (ps : List (List ℕ)) → breaks p ≡ true → foundFrom i m (p ∷ ps) ≡ FirstBad i
+found-bad i m p ps h = rw (h, add-zero)
+
+pub found-on : (i m : ℕ) (p : List ℕ) (ps : List (List ℕ)) → breaks p ≡ false
+    → foundFrom i m (p ∷ ps) ≡ foundFrom (i + 1) (m + cond (mentioned p) 1 0) ps
+found-on i m p ps h =
+    let e : i + suc (first breaks ps) ≡ i + 1 + first breaks ps = omega arith in
+    let f : m + (cond (mentioned p) 1 0 + count mentioned ps) ≡ m + cond (mentioned p) 1 0 + count mentioned ps = omega arith in
+    rw h (ap (λ (x : Eight × Eight). cond (any breaks ps) (x .0) (x .1)) (λ k. (FirstBad (e k), Mentions (f k))))
+
+pub found-end : (i m : ℕ) → foundFrom i m [] ≡ Mentions m
+found-end i m = rw add-zero
+
+-- the properties from the i-th on begin with the i-th
+pub pieces-on : (stride i : ℕ) (l : List ℕ) → i < 8 → pieces stride (8 - i) l ≡ take stride l ∷ pieces stride (8 - (i + 1)) (drop stride l)
+pieces-on stride i l h = let e : 8 - i ≡ suc (8 - (i + 1)) = omega arith in rw e
+
+-- fewer than 24 bytes break the layout
+pub breaks-less : (p : List ℕ) → length p < 24 → breaks p ≡ true
+unfolding breaks
+breaks-less p h = ap isBroken (decode-sized (take 24 p) (λ e. omega (arith, simp length-take at e)))
+
+-- ---- property i at the front of what is left, m being mentioned before it
+module _ (stride i m : ℕ) (l : List ℕ) (h : i < 8) where
+  pub turn-bad : breaks (take stride l) ≡ true → foundFrom i m (pieces stride (8 - i) l) ≡ FirstBad i
+  turn-bad b = rw (pieces-on stride i l h) (found-bad i m (take stride l) (pieces stride (8 - (i + 1)) (drop stride l)) b)
+
+  -- it is not all there
+  pub turn-less : length l < 24 → foundFrom i m (pieces stride (8 - i) l) ≡ FirstBad i
+  turn-less s = turn-bad (breaks-less (take stride l) (simp length-take (omega arith)))
+
+  module _ (wide : 24 ≤ stride) where
+    -- it breaks the layout
+    pub turn-broken : decodeOf (take 24 l) ≡ Broken → foundFrom i m (pieces stride (8 - i) l) ≡ FirstBad i
+    unfolding breaks
+    turn-broken e = turn-bad (rw (take-take 24 stride l wide, e))
+
+    -- it has a value
+    pub turn-good : (v : Value) → decodeOf (take 24 l) ≡ Good v
+        → foundFrom i m (pieces stride (8 - i) l) ≡ foundFrom (i + 1) (m + cond (isMention v) 1 0) (pieces stride (8 - (i + 1)) (drop stride l))
+    unfolding breaks mentioned
+    turn-good v e =
+        let sound : breaks (take stride l) ≡ false = rw (take-take 24 stride l wide, e) in
+        let same : mentioned (take stride l) ≡ isMention v = ap mentions (getD-take stride l 0 0 (omega arith) ∙ sym (getD-take 24 l 0 0 (omega arith)) ∙ decode-form (take 24 l) v e) in
+        rw (pieces-on stride i l h) (found-on i m (take stride l) (pieces stride (8 - (i + 1)) (drop stride l)) sound
+        ∙ ap (λ (b : Bool). foundFrom (i + 1) (m + cond b 1 0) (pieces stride (8 - (i + 1)) (drop stride l))) same)

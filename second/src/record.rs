@@ -1,0 +1,278 @@
+//! Records: the kind, the numbers and the times of one, and its properties.
+
+use crate::property::{properties, Value, PROPERTIES};
+
+/// The bytes of one record.
+pub const RECORD_BYTES: usize = 224;
+
+/// The bytes of a record before its properties.
+pub const HEAD_BYTES: usize = 32;
+
+/// The number that stands for "none" where a time could be.
+pub const NONE: u32 = u32::MAX;
+
+/// A correction number.
+#[derive(Clone, Copy, Debug, PartialEq)]
+pub struct Correction(pub u16);
+
+/// A sequence number.
+#[derive(Clone, Copy, Debug, PartialEq)]
+pub struct Sequence(pub u32);
+
+/// Seconds from the beginning of 2000, never "none".
+#[derive(Clone, Copy, Debug, PartialEq, PartialOrd)]
+pub struct Instant(pub u32);
+
+/// The side of a table.
+#[derive(Clone, Copy, Debug, PartialEq)]
+pub enum Side {
+    Permanent,
+    Temporary,
+}
+
+/// The kind of a record.
+#[derive(Clone, Copy, Debug, PartialEq)]
+pub enum Kind {
+    Baseline,
+    PermDelta,
+    TempDelta,
+}
+
+/// A begin and an end, each given or none.
+#[derive(Clone, Copy, Debug, PartialEq)]
+pub struct Span {
+    pub begin: Option<Instant>,
+    pub end: Option<Instant>,
+}
+
+/// The 32 bytes of a record before its properties.
+#[derive(Clone, Copy, Debug, PartialEq)]
+pub struct Head {
+    pub kind: u8,
+    pub flags: u8,
+    pub correction: Correction,
+    pub sequence: Sequence,
+    pub period: Span,
+    pub life: Span,
+    pub spare: [u8; 8],
+}
+
+/// A record, whatever its bytes; a property that breaks the layout has no value.
+#[derive(Clone, Copy, Debug, PartialEq)]
+pub struct Record {
+    pub head: Head,
+    pub properties: [Option<Value>; PROPERTIES],
+}
+
+impl Side {
+    /// Answers the side that a byte names, if it names one.
+    pub fn of(byte: u8) -> Option<Side> {
+        match byte {
+            0 => Some(Side::Permanent),
+            1 => Some(Side::Temporary),
+            _ => None,
+        }
+    }
+
+    /// Answers the byte that names the side.
+    pub fn byte(self) -> u8 {
+        match self {
+            Side::Permanent => 0,
+            Side::Temporary => 1,
+        }
+    }
+}
+
+impl Kind {
+    /// Every kind.
+    pub const ALL: [Kind; 3] = [Kind::Baseline, Kind::PermDelta, Kind::TempDelta];
+
+    /// Answers the kind that a byte names, if it names one.
+    pub fn of(byte: u8) -> Option<Kind> {
+        Kind::ALL.into_iter().find(|kind| kind.byte() == byte)
+    }
+
+    /// Answers the byte that names the kind.
+    pub fn byte(self) -> u8 {
+        match self {
+            Kind::Baseline => 1,
+            Kind::PermDelta => 2,
+            Kind::TempDelta => 3,
+        }
+    }
+
+    /// Answers the side whose table holds records of the kind.
+    pub fn side(self) -> Side {
+        match self {
+            Kind::Baseline | Kind::PermDelta => Side::Permanent,
+            Kind::TempDelta => Side::Temporary,
+        }
+    }
+}
+
+impl Instant {
+    /// Answers the instant that a number names, or none.
+    pub fn given(number: u32) -> Option<Instant> {
+        (number != NONE).then_some(Instant(number))
+    }
+}
+
+impl Span {
+    /// Neither a begin nor an end.
+    pub const NEITHER: Span = Span {
+        begin: None,
+        end: None,
+    };
+
+    /// Answers the span of two times, either of which may be "none".
+    pub fn new(begin: u32, end: u32) -> Span {
+        Span {
+            begin: Instant::given(begin),
+            end: Instant::given(end),
+        }
+    }
+
+    /// Answers the span that eight bytes hold.
+    fn read(bytes: [u8; 8]) -> Span {
+        let [a, b, c, d, e, f, g, h] = bytes;
+        Span::new(
+            u32::from_be_bytes([a, b, c, d]),
+            u32::from_be_bytes([e, f, g, h]),
+        )
+    }
+
+    /// Answers the eight bytes that hold the span.
+    fn write(self) -> Vec<u8> {
+        let number = |time: Option<Instant>| time.map_or(NONE, |instant| instant.0);
+        [
+            number(self.begin).to_be_bytes(),
+            number(self.end).to_be_bytes(),
+        ]
+        .concat()
+    }
+}
+
+impl Head {
+    /// Answers what the bytes before the properties say.
+    pub fn read(bytes: &[u8; HEAD_BYTES]) -> Head {
+        let [kind, flags, c0, c1, s0, s1, s2, s3, rest @ ..] = *bytes;
+        let [period, life, spare] = eights(rest);
+        Head {
+            kind,
+            flags,
+            correction: Correction(u16::from_be_bytes([c0, c1])),
+            sequence: Sequence(u32::from_be_bytes([s0, s1, s2, s3])),
+            period: Span::read(period),
+            life: Span::read(life),
+            spare,
+        }
+    }
+
+    /// Answers the bytes that say this; reading them gives it back.
+    pub fn write(&self) -> Vec<u8> {
+        let mut bytes = vec![self.kind, self.flags];
+        bytes.extend(self.correction.0.to_be_bytes());
+        bytes.extend(self.sequence.0.to_be_bytes());
+        bytes.extend(self.period.write());
+        bytes.extend(self.life.write());
+        bytes.extend(self.spare);
+        bytes
+    }
+
+    /// Answers whether the record is cancelled.
+    pub fn is_cancelled(&self) -> bool {
+        self.flags & 1 == 1
+    }
+}
+
+/// Answers 24 bytes as three times eight.
+fn eights(bytes: [u8; 24]) -> [[u8; 8]; 3] {
+    std::array::from_fn(|row| std::array::from_fn(|column| bytes[8 * row + column]))
+}
+
+impl Record {
+    /// Answers what the bytes of a record say.
+    pub fn read(bytes: &[u8; RECORD_BYTES]) -> Record {
+        let (head, rest) = bytes
+            .split_first_chunk()
+            .expect("a record is longer than its head");
+        Record {
+            head: Head::read(head),
+            properties: properties(rest),
+        }
+    }
+}
+
+#[cfg(test)]
+mod tests {
+    use super::*;
+    use crate::property::Reason;
+
+    /// Makes a record whose bytes can be worked out on paper.
+    fn bytes() -> [u8; RECORD_BYTES] {
+        let mut bytes = [0; RECORD_BYTES];
+        let head = [
+            2, 1, 0x12, 0x34, 0, 0, 1, 2, 0, 0, 0, 150, 255, 255, 255, 255,
+        ];
+        bytes[..16].copy_from_slice(&head);
+        bytes[16..24].copy_from_slice(&[0, 0, 0, 150, 255, 255, 255, 254]);
+        bytes[24..32].copy_from_slice(&[1, 2, 3, 4, 5, 6, 7, 8]);
+        bytes[32] = 9;
+        bytes[200..202].copy_from_slice(&[1, 4]);
+        bytes
+    }
+
+    /// Each field of the record table.
+    #[test]
+    fn a_record_is_read_by_its_layout() {
+        let Record { head, properties } = Record::read(&bytes());
+        assert_eq!((head.kind, head.flags), (2, 1));
+        assert_eq!(head.correction, Correction(0x1234));
+        assert_eq!(head.sequence, Sequence(258));
+        assert_eq!(
+            head.period,
+            Span {
+                begin: Some(Instant(150)),
+                end: None
+            }
+        );
+        assert_eq!(head.life.begin, Some(Instant(150)));
+        assert_eq!(head.life.end, Some(Instant(4_294_967_294)));
+        assert_eq!(head.spare, [1, 2, 3, 4, 5, 6, 7, 8]);
+        assert_eq!(properties[0], None);
+        assert_eq!(properties[6], Some(Value::Unmentioned));
+        assert_eq!(properties[7], Some(Value::Nil(Reason::Unknown)));
+    }
+
+    /// Writing undoes reading.
+    #[test]
+    fn a_head_is_written_as_it_was_read() {
+        let head: [u8; HEAD_BYTES] = *bytes().first_chunk().unwrap();
+        assert_eq!(Head::read(&head).write(), head);
+    }
+
+    /// "bit 0: cancelled".
+    #[test]
+    fn only_bit_zero_cancels() {
+        let head = Record::read(&bytes()).head;
+        assert!(head.is_cancelled());
+        assert!(!Head {
+            flags: 0xfe,
+            ..head
+        }
+        .is_cancelled());
+    }
+
+    /// Kinds are 1 to 3, sides 0 and 1.
+    #[test]
+    fn kinds_and_sides_have_their_bytes() {
+        assert_eq!(Kind::of(0), None);
+        assert_eq!(Kind::of(1), Some(Kind::Baseline));
+        assert_eq!(Kind::of(2), Some(Kind::PermDelta));
+        assert_eq!(Kind::of(3), Some(Kind::TempDelta));
+        assert_eq!(Kind::of(4), None);
+        assert_eq!(Side::of(0), Some(Side::Permanent));
+        assert_eq!(Side::of(1), Some(Side::Temporary));
+        assert_eq!(Side::of(2), None);
+    }
+}
