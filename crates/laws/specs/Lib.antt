@@ -1,3 +1,4 @@
 pub mod OneAnswer
 pub mod Lists
+pub mod Orders
 pub mod Refusals

@@ -5,11 +5,11 @@ use mathlib.Core.List.{List}
 use mathlib.Core.Bool.{Bool, true, false, _&&_}
 use native.Mathlib.Nat.{add-zero, zero-add}
 use native.Mathlib.Omega.{arith}
-use lib.ListN.{length, getD}
-use lib.Seq.{ext-getD}
+use lib.ListN.{length, getD, drop, length-drop}
+use lib.Seq.{ext-getD, getD-drop}
 use lib.Dec.{leb, eqb}
 use borrow.Author.Tests.{le-leb, lt-leb, eq-eqb, ne-eqb, leb-true, eqb-true, eqb-false}
-use Rattle.laws.proofs.Tests.{tests, and-assoc, and-both, and-true, and-false}
+use Rattle.laws.proofs.Tests.{tests, iff, and-assoc, and-both, and-true, and-false}
 use Rattle.octets.specs.Bytes.{byteOf, digits, each, there, beOf, filled, sameBytes}
 use Rattle.octets.proofs.Readers.{be-whole}
 
@@ -130,3 +130,19 @@ pub bytes-same : (a b : List ℕ) → a ≡ b → sameBytes a b ≡ true
 unfolding sameBytes
 bytes-same a b e =
     rw (← e, eq-eqb (length a) (length a) refl) (each-all (λ i. eqb (byteOf a i) (byteOf a i)) (length a) 0 (λ i l. eq-eqb (byteOf a (0 + i)) (byteOf a (0 + i)) refl))
+
+-- ---- runs of a part
+-- the n places from k + at on, of a list that starts at k
+each-shift : (test test' : ℕ → Bool) (k : ℕ) → ((i : ℕ) → test i ≡ test' (k + i)) → (n at : ℕ) → each test n at ≡ each test' n (k + at)
+each-shift test test' k same zero at = refl
+each-shift test test' k same (suc n) at =
+    let e : k + (at + n) ≡ k + at + n = omega arith in
+    rw (each-shift test test' k same n at, same (at + n), e)
+
+pub filled-drop : (v n : ℕ) (s : List ℕ) (k at : ℕ) → k ≤ length s → filled v n (drop k s) at ≡ filled v n s (k + at)
+unfolding filled
+filled-drop v n s k at h =
+    let there-same : leb (at + n) (length (drop k s)) ≡ leb (k + at + n) (length s) =
+    rw (length-drop k s) (iff (leb (at + n) (length s - k)) (leb (k + at + n) (length s)) (λ e. omega tests) (λ e. omega tests)) in
+    rw there-same (ap (λ (b : Bool). leb (k + at + n) (length s) && b)
+    (each-shift (λ i. eqb (byteOf (drop k s) i) v) (λ i. eqb (byteOf s i) v) k (λ i. ap (λ (x : ℕ). eqb x v) (getD-drop k s i 0)) n at))

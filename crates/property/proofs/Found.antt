@@ -72,3 +72,21 @@ module _ (stride i m : ℕ) (l : List ℕ) (h : i < 8) where
         let same : mentioned (take stride l) ≡ isMention v = ap mentions (getD-take stride l 0 0 (omega arith) ∙ sym (getD-take 24 l 0 0 (omega arith)) ∙ decode-form (take 24 l) v e) in
         rw (pieces-on stride i l h) (found-on i m (take stride l) (pieces stride (8 - (i + 1)) (drop stride l)) sound
         ∙ ap (λ (b : Bool). foundFrom (i + 1) (m + cond b 1 0) (pieces stride (8 - (i + 1)) (drop stride l))) same)
+
+-- ---- what an answer of the check tells
+bad : (b : Bool) (i m j : ℕ) → cond b (FirstBad i) (Mentions m) ≡ FirstBad j → b ≡ true
+bad true i m j e = refl
+bad false i m j e = cc
+
+sound : (b : Bool) (i m n : ℕ) → cond b (FirstBad i) (Mentions m) ≡ Mentions n → (b ≡ false) × (n ≡ m)
+sound true i m n e = (cc, cc)
+sound false i m n e = (refl, cc)
+
+pub eight-bad : (stride : ℕ) (bytes : List ℕ) (i : ℕ) → eightOf stride bytes ≡ FirstBad i → any breaks (propertiesOf stride bytes) ≡ true
+unfolding eightOf
+eight-bad stride bytes i e = bad _ _ _ i e
+
+pub eight-sound : (stride : ℕ) (bytes : List ℕ) (n : ℕ) → eightOf stride bytes ≡ Mentions n
+    → (any breaks (propertiesOf stride bytes) ≡ false) × (n ≡ count mentioned (propertiesOf stride bytes))
+unfolding eightOf
+eight-sound stride bytes n e = sound _ _ _ n e

@@ -1,0 +1,93 @@
+use Prim.Native.Nat.{ℕ, _+_, _*_, _-_, _≤_}
+use mathlib.Core.Path.{_≡_, sym, _∙_, ap}
+use mathlib.Core.List.{List}
+use mathlib.Core.Bool.{true, not, cond}
+use native.Mathlib.Omega.{arith}
+use lib.ListN.{length, take, drop, length-drop}
+use lib.Dec.{eqb}
+use borrow.Author.Tests.{not-true, not-false, eqb-true, eq-eqb}
+use Rattle.laws.specs.Refusals.{refuse}
+use Rattle.laws.proofs.Lists.{rest-whole}
+use Rattle.octets.specs.Bytes.{sameBytes}
+use Rattle.slice.specs.Record.{recordSize, sliceSize}
+use Rattle.slice.specs.Check.{refused, recordTests, checkSlice}
+use Rattle.slice.specs.declared.check.Checked.{Checked}
+use Rattle.slice.specs.declared.check.Checked.the-variants.{Sound}
+use Rattle.slice.proofs.Stages.{record-is, slice-is}
+use borrow.Author.Needs.{needs}
+use Rattle.slice.proofs.check.check_slice.Statement.{statement}
+use Rattle.slice.proofs.check.check_slice.Tie as tie
+
+abbrev S : tie.Start → ℕ
+S s = s .args .stride
+
+abbrev B : tie.Start → List ℕ
+B s = s .args .slice .now
+
+abbrev F : tie.Start → List ℕ
+F s = s .args .feature .now
+
+abbrev Answer : tie.Start → Checked
+Answer s = checkSlice (S s) (F s) (s .args .side) (B s)
+
+abbrev s1 : tie.Else1 → tie.Start
+s1 c = c .before .before .before .before
+
+size : (c : tie.Else1) → length (B (s1 c)) ≡ sliceSize (S (s1 c))
+size c = eqb-true _ _ (sym (c .before .is-sized .ensures) ∙ not-false _ (c .if1 .left))
+
+-- past 9: what is left of the check
+past9 : (c : tie.Else1) → Answer (s1 c)
+    ≡ cond (not (sameBytes (take 16 (B (s1 c))) (F (s1 c)))) (refused 10) (refuse refused (recordTests (S (s1 c)) (s1 c .args .side) (drop 16 (B (s1 c)))) Sound)
+past9 c = slice-is _ _ _ _ ∙ rw (eq-eqb _ _ (size c))
+
+-- what is left after the feature is a record
+record-size : (c : tie.Else1) → length (drop 16 (B (s1 c))) ≡ recordSize (S (s1 c))
+record-size c = length-drop 16 (B (s1 c)) ∙ omega (arith, size c)
+
+returns : tie.Need-returns
+returns c =
+    c .refuse-with .ensures ∙ sym (slice-is _ _ _ _ ∙ rw (sym (c .before .before .is-sized .ensures) ∙ not-true _ (c .before .if1 .taken)))
+
+part-same-end : tie.Need-part-same-end
+part-same-end c =
+    omega (arith, size c)
+
+returns-2 : tie.Need-returns-2
+returns-2 c =
+    let m = c .before .before in
+    c .refuse-with2 .ensures ∙ sym (past9 (m .before .before) ∙ rw (sym (m .same .ensures) ∙ not-true _ (c .before .if2 .taken)))
+
+sub-check-record : tie.Need-sub-check-record
+sub-check-record c =
+    omega (arith, size (c .before .before .before))
+
+part-check-record-start : tie.Need-part-check-record-start
+part-check-record-start c =
+    omega (arith, size (c .before .before .before))
+
+returns-3 : tie.Need-returns-3
+returns-3 c =
+    let m = c .before .before .before in
+    let e = m .before .before in
+    rw (rest-whole 16 (B (s1 e))) at (c .check-record .ensures) ∙ record-is _ _ _ ∙ rw (eq-eqb _ _ (record-size e))
+    (sym (past9 e ∙ rw (sym (m .same .ensures) ∙ not-false _ (c .before .before .if2 .left))))
+
+pub check-slice-spec : {M : Type 1} → statement M
+check-slice-spec =
+    tie.close
+    (tie.spec
+    (λ c κs. search needs)
+    (λ c κs. search needs)
+    returns
+    (λ c. search needs)
+    (λ c. search needs)
+    part-same-end
+    (λ c κs. search needs)
+    (λ c κs. search needs)
+    returns-2
+    sub-check-record
+    part-check-record-start
+    (λ c. search needs)
+    (λ c κs. search needs)
+    returns-3)

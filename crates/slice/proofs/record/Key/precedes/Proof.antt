@@ -1,0 +1,12 @@
+use Rattle.laws.specs.Orders.{lexLess}
+use borrow.Author.Needs.{needs}
+use Rattle.slice.proofs.record.Key.precedes.Statement.{statement}
+use Rattle.slice.proofs.record.Key.precedes.Tie as tie
+
+returns : tie.Need-returns
+unfolding lexLess
+returns c =
+    rw (c .precedes .ensures)
+
+pub precedes-spec : {M : Type 1} → statement M
+precedes-spec = tie.close (tie.spec (λ c κs. search needs) returns)

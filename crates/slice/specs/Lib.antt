@@ -1,0 +1,4 @@
+pub mod Numbers
+pub mod Record
+pub mod Rules
+pub mod Check
