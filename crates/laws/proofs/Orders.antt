@@ -1,6 +1,6 @@
 -- Laws of orders. Assumes nothing.
 use Prim.Native.Nat.{ℕ, _<_}
-use mathlib.Core.Path.{_≡_, refl}
+use mathlib.Core.Path.{_≡_, refl, sym}
 use mathlib.Core.Bool.{Bool, true, false, _&&_, _||_}
 use mathlib.Core.Logic.{_⊎_, inl, inr}
 use native.Mathlib.Omega.{arith}
@@ -50,3 +50,16 @@ lex-trans a b c d e f h k = true-lex a b e f (go (lex-true a b c d h) (lex-true 
     go (inl p) (inr q) = inl (omega arith)
     go (inr p) (inl q) = inl (omega arith)
     go (inr p) (inr q) = inr (omega arith, omega arith)
+
+-- of two pairs neither of which comes before the other, each is the other
+lex-false : (a b c d : ℕ) → lexLess a b c d ≡ false → Lex a b c d → ⊥
+lex-false a b c d h l = let e = true-lex a b c d l in let z : _≡_ {A = ℕ} 0 1 = cc in omega arith
+
+pub lex-total : (a b c d : ℕ) → lexLess a b c d ≡ false → lexLess c d a b ≡ false → (a ≡ c) × (b ≡ d)
+lex-total a b c d h k =
+    let below : a < c → ⊥ = λ l. lex-false a b c d h (inl l) in
+    let above : c < a → ⊥ = λ l. lex-false c d a b k (inl l) in
+    let first : a ≡ c = omega arith in
+    let below' : b < d → ⊥ = λ l. lex-false a b c d h (inr (first, l)) in
+    let above' : d < b → ⊥ = λ l. lex-false c d a b k (inr (sym first, l)) in
+    (first, omega arith)

@@ -1,10 +1,13 @@
 -- Laws of the readers, over the width n. Assumes nothing.
-use Prim.Native.Nat.{ℕ, _+_, _≤_, _<_}
+use Prim.Native.Nat.{ℕ, zero, suc, _+_, _^_, _≤_, _<_}
 use mathlib.Core.Path.{_≡_}
 use mathlib.Core.List.{List}
+use native.Mathlib.Nat.{pow-suc}
+use native.Mathlib.Omega.{arith}
 use lib.ListN.{length}
+use Rattle.laws.proofs.Tests.{pick-ind}
 use borrow.Author.Tests.{le-leb, lt-leb}
-use Rattle.octets.specs.Bytes.{byteOf, digits, beOf}
+use Rattle.octets.specs.Bytes.{byteOf, digits, there, beOf}
 
 module _ (n : ℕ) (s : List ℕ) (at : ℕ) where
   -- not all the bytes are there
@@ -16,3 +19,12 @@ module _ (n : ℕ) (s : List ℕ) (at : ℕ) where
   pub be-whole : at + n ≤ length s → beOf n s at ≡ digits (byteOf s) n at
   unfolding beOf
   be-whole h = rw (le-leb _ _ h)
+
+-- ---- what a number of n bytes is at most
+below : (byte : ℕ → ℕ) → ((i : ℕ) → byte i < 256) → (n at : ℕ) → digits byte n at < 256 ^ n
+below byte h zero at = omega arith
+below byte h (suc n) at = omega (arith, below byte h n at, h (at + n), pow-suc 256 n)
+
+pub be-below : (n : ℕ) (s : List ℕ) (at : ℕ) → ((i : ℕ) → byteOf s i < 256) → beOf n s at < 256 ^ n
+unfolding beOf
+be-below n s at h = pick-ind (λ (x : ℕ). x < 256 ^ n) (there n s at) (λ _. below (byteOf s) h n at) (λ _. omega (arith, below (byteOf s) h n at))
