@@ -1,25 +1,17 @@
 -- Laws of orders. Assumes nothing.
 use Prim.Native.Nat.{ℕ, _<_}
 use mathlib.Core.Path.{_≡_, refl, sym}
-use mathlib.Core.Bool.{Bool, true, false, _&&_, _||_}
+use mathlib.Core.Bool.{true, false, _&&_}
 use mathlib.Core.Logic.{_⊎_, inl, inr}
 use native.Mathlib.Omega.{arith}
 use lib.Dec.{ltb, eqb}
 use borrow.Author.Tests.{ltb-true, eqb-true, lt-ltb, eq-eqb}
 use Rattle.laws.specs.Orders.{lexLess}
-use Rattle.laws.proofs.Tests.{and-both}
+use Rattle.laws.proofs.Tests.{and-both, or-true, or-either}
 
 -- what it is to come before
 abbrev Lex : ℕ → ℕ → ℕ → ℕ → Type 0
 Lex a b c d = (a < c) ⊎ ((a ≡ c) × (b < d))
-
-or-true : (b : Bool) → (b || true) ≡ true
-or-true true = refl
-or-true false = refl
-
-or-either : (p q : Bool) → (p || q) ≡ true → (p ≡ true) ⊎ (q ≡ true)
-or-either true q h = inl refl
-or-either false q h = inr h
 
 pub lex-true : (a b c d : ℕ) → lexLess a b c d ≡ true → Lex a b c d
 unfolding lexLess

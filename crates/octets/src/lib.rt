@@ -1,7 +1,7 @@
 // Numbers and runs in lent bytes, the highest byte first. Each function answers for every slice and
 // every place, and none asks anything of its caller.
 ghost use mathlib.Core.Path.{_≡_};
-ghost use Prim.Native.Nat.{_<_};
+ghost use Prim.Native.Nat.{_+_, _*_};
 ghost use lib.ListN.{length};
 ghost use Rattle.octets.specs.Bytes.{byteOf, there, beOf, filled, sameBytes};
 
@@ -12,11 +12,18 @@ pub fn byte(s: &[u8], at: usize) -> u8
     if at < s.len() { s[at] } else { 0 }
 }
 
-// A byte as a wider number.
-fn wide(x: u8) -> u64
-    ensures { λ r. ⌜ (r ≡ x) × (r < 256) ⌝ }
+// The number of two bytes.
+fn two(a: u8, b: u8) -> u16
+    ensures { λ r. ⌜ r ≡ a * 256 + b ⌝ }
 {
-    x as u64
+    (a as u16) * 256 + (b as u16)
+}
+
+// The number of four bytes.
+fn four(a: u8, b: u8, c: u8, d: u8) -> u32
+    ensures { λ r. ⌜ r ≡ a * 16777216 + b * 65536 + c * 256 + d ⌝ }
+{
+    (a as u32) * 16777216 + (b as u32) * 65536 + (c as u32) * 256 + (d as u32)
 }
 
 // The number of two bytes at `at`, or 0 unless both are there.
@@ -29,7 +36,7 @@ pub fn be16(s: &[u8], at: usize) -> u16
     if s.len() - 2 < at {
         return 0;
     }
-    (wide(s[at]) * 256 + wide(s[at + 1])) as u16
+    two(s[at], s[at + 1])
 }
 
 // The number of four bytes at `at`, or 0 unless all are there.
@@ -42,10 +49,7 @@ pub fn be32(s: &[u8], at: usize) -> u32
     if s.len() - 4 < at {
         return 0;
     }
-    (wide(s[at]) * 16777216
-        + wide(s[at + 1]) * 65536
-        + wide(s[at + 2]) * 256
-        + wide(s[at + 3])) as u32
+    four(s[at], s[at + 1], s[at + 2], s[at + 3])
 }
 
 // The number of eight bytes at `at`, or 0 unless all are there.
@@ -58,15 +62,9 @@ pub fn be64(s: &[u8], at: usize) -> u64
     if s.len() - 8 < at {
         return 0;
     }
-    let a = wide(s[at]) * 16777216
-        + wide(s[at + 1]) * 65536
-        + wide(s[at + 2]) * 256
-        + wide(s[at + 3]);
-    let b = wide(s[at + 4]) * 16777216
-        + wide(s[at + 5]) * 65536
-        + wide(s[at + 6]) * 256
-        + wide(s[at + 7]);
-    a * 4294967296 + b
+    let high = four(s[at], s[at + 1], s[at + 2], s[at + 3]);
+    let low = four(s[at + 4], s[at + 5], s[at + 6], s[at + 7]);
+    (high as u64) * 4294967296 + (low as u64)
 }
 
 // Whether the n bytes at `at` are all there.

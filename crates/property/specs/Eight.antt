@@ -6,7 +6,7 @@ use lib.ListN.{take}
 use Rattle.laws.specs.Lists.{pieces, any, count, first}
 use Rattle.octets.specs.Bytes.{byteOf}
 use Rattle.property.specs.Value.{mentions}
-use Rattle.property.specs.Layout.{decodeOf}
+use Rattle.property.specs.Layout.{decodeOf, layout}
 use Rattle.property.specs.declared.Decoded.{Decoded}
 use Rattle.property.specs.declared.Decoded.the-variants.{Good, Broken}
 use Rattle.property.specs.declared.Eight.{Eight}
@@ -37,3 +37,8 @@ found ps = cond (any breaks ps) (FirstBad (first breaks ps)) (Mentions (count me
 
 unfoldable pub eightOf : ℕ → List ℕ → Eight
 eightOf stride bytes = found (propertiesOf stride bytes)
+
+-- `unfolding eight` opens every definition of this file, and those of the layout
+unfoldable pub eight : Unit {0}
+unfolding propertiesOf breaks mentioned eightOf layout
+eight = tt

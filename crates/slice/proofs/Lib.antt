@@ -1,4 +1,7 @@
 -- What the proofs cite, and the laws for the floors above.
+pub mod Keys
+pub mod Times
 pub mod View
 pub mod Stages
 pub mod Sound
+pub mod OneAnswer

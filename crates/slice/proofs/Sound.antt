@@ -106,6 +106,6 @@ pub delivered : (stride : ℕ) (feature : List ℕ) (side : ℕ) (r : List ℕ) 
     → checkSlice stride feature side (feature ++ r) ≡ checkRecord stride side r
 delivered stride feature side r h =
     let size : eqb (length (feature ++ r)) (sliceSize stride) ≡ eqb (length r) (recordSize stride) =
-        rw (length-append feature r, h) (iff (eqb (16 + length r) (sliceSize stride)) (eqb (length r) (recordSize stride)) (λ e. omega tests) (λ e. omega tests)) in
+    rw (length-append feature r, h) (iff (eqb (16 + length r) (sliceSize stride)) (eqb (length r) (recordSize stride)) (λ e. omega tests) (λ e. omega tests)) in
     slice-is stride feature side (feature ++ r)
     ∙ rw (size, take-at feature r 16 h, drop-at feature r 16 h, bytes-same feature feature refl) (sym (record-is stride side r))

@@ -7,9 +7,10 @@ use lib.Dec.{eqb, ltb}
 use Rattle.laws.specs.Lists.{any}
 use Rattle.laws.specs.Refusals.{Test, test, refuse}
 use Rattle.octets.specs.Bytes.{filled, sameBytes}
-use Rattle.property.specs.Eight.{breaks}
+use Rattle.property.specs.Eight.{breaks, eight}
+use Rattle.slice.specs.Numbers.{noInstant}
 use Rattle.slice.specs.Record.{ofSide, recordSize, sliceSize, kindOf, flagsOf, cancelledOf, areaOf, viewOf}
-use Rattle.slice.specs.Rules.{timesRight, contentRight}
+use Rattle.slice.specs.Rules.{baselineTimes, permdeltaTimes, tempdeltaTimes, timesOf, timesRight, contentOf, contentRight}
 use Rattle.slice.specs.declared.check.Checked.{Checked}
 use Rattle.slice.specs.declared.check.Checked.the-variants.{Sound, Refused}
 
@@ -58,3 +59,8 @@ checkRecord stride side r = refuse refused (test 9 (not (eqb (length r) (recordS
 
 unfoldable pub checkSlice : ℕ → List ℕ → ℕ → List ℕ → Checked
 checkSlice stride feature side s = refuse refused (sliceTests stride feature side s) Sound
+
+-- `unfolding checking` opens every definition that the check computes by
+unfoldable pub checking : Unit {0}
+unfolding reservedClear emptied countedTests recordTests sliceTests checkRecord checkSlice noInstant ofSide viewOf baselineTimes permdeltaTimes tempdeltaTimes timesOf timesRight contentOf contentRight sameBytes eight
+checking = tt

@@ -2,3 +2,4 @@ pub mod Numbers
 pub mod Record
 pub mod Rules
 pub mod Check
+pub mod Examples

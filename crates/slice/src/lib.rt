@@ -1,8 +1,8 @@
 // A time slice: its three numbers, the fields of its record, and the slice check. Each function answers
 // for every slice of bytes and every number, and none asks anything of its caller.
-pub mod check;
-pub mod numbers;
-pub mod record;
+mod check;
+mod numbers;
+mod record;
 mod rules;
 
 pub use check::Checked;
@@ -13,6 +13,18 @@ pub use check::number_of;
 pub use numbers::CorrectionNumber;
 pub use numbers::Instant;
 pub use numbers::SequenceNumber;
+pub use record::BASELINE;
 pub use record::Key;
 pub use record::Life;
+pub use record::PERMANENT;
+pub use record::PERMDELTA;
 pub use record::Period;
+pub use record::TEMPDELTA;
+pub use record::TEMPORARY;
+pub use record::correction_of;
+pub use record::is_cancelled;
+pub use record::key_of;
+pub use record::kind_of;
+pub use record::life_of;
+pub use record::period_of;
+pub use record::side_takes;

@@ -29,18 +29,18 @@ impl SequenceNumber {
 }
 
 impl CorrectionNumber {
-    // Whether this correction number is lower than the other.
-    pub fn precedes(self, other: CorrectionNumber) -> bool
-        ensures { λ r. ⌜ r ≡ lowerCorrection self other ⌝ }
+    // Whether this correction number is lower than the stored one.
+    pub fn precedes(self, stored: CorrectionNumber) -> bool
+        ensures { λ r. ⌜ r ≡ lowerCorrection self stored ⌝ }
     {
-        self.0 < other.0
+        self.0 < stored.0
     }
 
-    // Whether the two are one correction number.
-    pub fn is(self, other: CorrectionNumber) -> bool
-        ensures { λ r. ⌜ r ≡ sameCorrection self other ⌝ }
+    // Whether this is the stored correction number.
+    pub fn is(self, stored: CorrectionNumber) -> bool
+        ensures { λ r. ⌜ r ≡ sameCorrection self stored ⌝ }
     {
-        self.0 == other.0
+        self.0 == stored.0
     }
 }
 
@@ -59,24 +59,24 @@ impl Instant {
         self.0 == 4294967295
     }
 
-    // Whether this instant is before the other. None comes after all.
-    pub fn precedes(self, other: Instant) -> bool
-        ensures { λ r. ⌜ r ≡ before self other ⌝ }
+    // Whether this instant is before a later one. None comes after all.
+    pub fn precedes(self, later: Instant) -> bool
+        ensures { λ r. ⌜ r ≡ before self later ⌝ }
     {
-        self.0 < other.0
+        self.0 < later.0
     }
 
-    // Whether this instant is the other or before it.
-    pub fn at_most(self, other: Instant) -> bool
-        ensures { λ r. ⌜ r ≡ atMost self other ⌝ }
+    // Whether this instant is the limit or before it.
+    pub fn at_most(self, limit: Instant) -> bool
+        ensures { λ r. ⌜ r ≡ atMost self limit ⌝ }
     {
-        self.0 <= other.0
+        self.0 <= limit.0
     }
 
-    // Whether the two are one instant, or both none.
-    pub fn is(self, other: Instant) -> bool
-        ensures { λ r. ⌜ r ≡ sameInstant self other ⌝ }
+    // Whether this is that instant, none being none.
+    pub fn is(self, that: Instant) -> bool
+        ensures { λ r. ⌜ r ≡ sameInstant self that ⌝ }
     {
-        self.0 == other.0
+        self.0 == that.0
     }
 }
