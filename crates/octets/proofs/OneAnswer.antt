@@ -2,26 +2,29 @@
 use mathlib.Core.Path.{refl}
 use Rattle.laws.specs.OneAnswer.{OneAnswer}
 use Rattle.laws.proofs.OneAnswer.{same}
+use Rattle.octets.proofs.byte.Kinds as byte-k
+use Rattle.octets.proofs.byte.Reads as byte
 use Rattle.octets.proofs.be16.Kinds as be16-k
 use Rattle.octets.proofs.be16.Reads as be16
 use Rattle.octets.proofs.be32.Kinds as be32-k
 use Rattle.octets.proofs.be32.Reads as be32
 use Rattle.octets.proofs.be64.Kinds as be64-k
 use Rattle.octets.proofs.be64.Reads as be64
-use Rattle.octets.proofs.blank.Kinds as blank-k
-use Rattle.octets.proofs.blank.Reads as blank
 use Rattle.octets.proofs.blank2.Kinds as blank2-k
 use Rattle.octets.proofs.blank2.Reads as blank2
 use Rattle.octets.proofs.blank4.Kinds as blank4-k
 use Rattle.octets.proofs.blank4.Reads as blank4
 use Rattle.octets.proofs.blank8.Kinds as blank8-k
 use Rattle.octets.proofs.blank8.Reads as blank8
-use Rattle.octets.proofs.byte.Kinds as byte-k
-use Rattle.octets.proofs.byte.Reads as byte
 use Rattle.octets.proofs.full8.Kinds as full8-k
 use Rattle.octets.proofs.full8.Reads as full8
+use Rattle.octets.proofs.blank.Kinds as blank-k
+use Rattle.octets.proofs.blank.Reads as blank
 use Rattle.octets.proofs.same.Kinds as same-k
 use Rattle.octets.proofs.same.Reads as same
+
+pub byte-one : OneAnswer byte-k.ps byte-k.r byte.Asked byte.Learnt
+byte-one κs a = (tt, λ z z' ws ws' p q. (same p q, refl))
 
 pub be16-one : OneAnswer be16-k.ps be16-k.r be16.Asked be16.Learnt
 be16-one κs a = (tt, λ z z' ws ws' p q. (same p q, refl))
@@ -32,9 +35,6 @@ be32-one κs a = (tt, λ z z' ws ws' p q. (same p q, refl))
 pub be64-one : OneAnswer be64-k.ps be64-k.r be64.Asked be64.Learnt
 be64-one κs a = (tt, λ z z' ws ws' p q. (same p q, refl))
 
-pub blank-one : OneAnswer blank-k.ps blank-k.r blank.Asked blank.Learnt
-blank-one κs a = (tt, λ z z' ws ws' p q. (same p q, refl))
-
 pub blank2-one : OneAnswer blank2-k.ps blank2-k.r blank2.Asked blank2.Learnt
 blank2-one κs a = (tt, λ z z' ws ws' p q. (same p q, refl))
 
@@ -44,11 +44,11 @@ blank4-one κs a = (tt, λ z z' ws ws' p q. (same p q, refl))
 pub blank8-one : OneAnswer blank8-k.ps blank8-k.r blank8.Asked blank8.Learnt
 blank8-one κs a = (tt, λ z z' ws ws' p q. (same p q, refl))
 
-pub byte-one : OneAnswer byte-k.ps byte-k.r byte.Asked byte.Learnt
-byte-one κs a = (tt, λ z z' ws ws' p q. (same p q, refl))
-
 pub full8-one : OneAnswer full8-k.ps full8-k.r full8.Asked full8.Learnt
 full8-one κs a = (tt, λ z z' ws ws' p q. (same p q, refl))
+
+pub blank-one : OneAnswer blank-k.ps blank-k.r blank.Asked blank.Learnt
+blank-one κs a = (tt, λ z z' ws ws' p q. (same p q, refl))
 
 pub same-one : OneAnswer same-k.ps same-k.r same.Asked same.Learnt
 same-one κs a = (tt, λ z z' ws ws' p q. (same p q, refl))

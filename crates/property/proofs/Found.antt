@@ -24,7 +24,7 @@ foundFrom i m ps = cond (any breaks ps) (FirstBad (i + first breaks ps)) (Mentio
 
 pub found-start : (stride : ℕ) (bytes : List ℕ) → eightOf stride bytes ≡ foundFrom 0 0 (pieces stride 8 bytes)
 unfolding eightOf propertiesOf
-found-start stride bytes = rw (zero-add, zero-add)
+found-start stride bytes = rw (zero-add (first breaks (pieces stride 8 bytes)), zero-add (count mentioned (pieces stride 8 bytes)))
 
 pub found-bad : (i m : ℕ) (p : List ℕ) (ps : List (List ℕ)) → breaks p ≡ true → foundFrom i m (p ∷ ps) ≡ FirstBad i
 found-bad i m p ps h = rw (h, add-zero)

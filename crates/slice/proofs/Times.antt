@@ -5,15 +5,15 @@ use mathlib.Core.List.{List}
 use mathlib.Core.Bool.{Bool, true, false, _&&_, _||_}
 use mathlib.Core.Logic.{_⊎_, inl, inr}
 use native.Mathlib.Omega.{arith}
-use lib.Dec.{eqb, ltb, leb}
-use borrow.Author.Tests.{eqb-true, eqb-false, ltb-true, leb-true, not-true}
+use borrow.Author.Tests.{not-true}
 use Rattle.laws.proofs.Tests.{and-both, or-either}
 use Rattle.octets.specs.Bytes.{byteOf, beOf}
 use Rattle.octets.proofs.Readers.{be-below}
-use Rattle.slice.specs.Numbers.{noInstant, isNone, given, before, atMost, sameInstant}
+use Rattle.numbers.proofs.Facts.{none-true, none-false, before-true, at-most-true, same-true}
+use Rattle.numbers.specs.Numbers.{noInstant, isNone, given, before, atMost, sameInstant}
 use Rattle.slice.specs.Record.{baseline, permdelta, tempdelta}
 use Rattle.slice.specs.Rules.{endRight, baselineTimes, permdeltaTimes, tempdeltaTimes, timesOf}
-use Rattle.slice.specs.declared.numbers.Instant.{Instant}
+use Rattle.numbers.specs.declared.Instant.{Instant}
 use Rattle.slice.specs.declared.record.Period.{Period}
 use Rattle.slice.specs.declared.record.Life.{Life}
 
@@ -27,12 +27,12 @@ none-or : (t : Instant) (b : Bool) (P : Type 0) → (b ≡ true → P) → (isNo
 none-or t b P f h = go (or-either (isNone t) b h)
   where
     go : (isNone t ≡ true) ⊎ (b ≡ true) → (t .0 ≡ noInstant) ⊎ P
-    go (inl e) = inl (eqb-true _ _ e)
+    go (inl e) = inl (none-true t e)
     go (inr e) = inr (f e)
 
 pub begin-given : (kind : ℕ) (p : Period) (l : Life) → timesOf kind p l ≡ true → p .begin .0 ≡ noInstant → ⊥
 unfolding timesOf
-begin-given kind p l h = eqb-false _ _ (not-true _ (and-both _ _ h .0))
+begin-given kind p l h = none-false (p .begin) (not-true _ (and-both (given (p .begin)) _ h .0))
 
 pub record BaselineTimes (p : Period) (l : Life) : Type 0 where
   pub end : (p .end .0 ≡ noInstant) ⊎ (p .begin .0 < p .end .0)
@@ -47,10 +47,10 @@ baseline-times p l h =
     let b = and-both _ _ (a .1) in
     let c = and-both _ _ (b .1) in
     record {
-      end = none-or (p .end) (before (p .begin) (p .end)) _ (ltb-true _ _) (a .0);
-      lifeBegin = none-or (l .begin) (atMost (l .begin) (p .begin)) _ (leb-true _ _) (b .0);
-      lifeEnd = none-or (l .end) (before (p .begin) (l .end)) _ (ltb-true _ _) (c .0);
-      inLife = none-or (p .end) (isNone (l .end) || atMost (p .end) (l .end)) _ (none-or (l .end) (atMost (p .end) (l .end)) _ (leb-true _ _)) (c .1);
+      end = none-or (p .end) (before (p .begin) (p .end)) _ (before-true (p .begin) (p .end)) (a .0);
+      lifeBegin = none-or (l .begin) (atMost (l .begin) (p .begin)) _ (at-most-true (l .begin) (p .begin)) (b .0);
+      lifeEnd = none-or (l .end) (before (p .begin) (l .end)) _ (before-true (p .begin) (l .end)) (c .0);
+      inLife = none-or (p .end) (isNone (l .end) || atMost (p .end) (l .end)) _ (none-or (l .end) (atMost (p .end) (l .end)) _ (at-most-true (p .end) (l .end))) (c .1);
     }
 
 pub record PermdeltaTimes (p : Period) (l : Life) : Type 0 where
@@ -66,10 +66,10 @@ permdelta-times p l h =
     let b = and-both _ _ (a .1) in
     let c = and-both _ _ (b .1) in
     record {
-      end = eqb-true _ _ (a .0);
-      lifeBegin = none-or (l .begin) (sameInstant (l .begin) (p .begin)) _ (eqb-true _ _) (b .0);
-      lifeEnd = none-or (l .end) (sameInstant (l .end) (p .begin)) _ (eqb-true _ _) (c .0);
-      notBoth = none-or (l .begin) (isNone (l .end)) _ (eqb-true _ _) (c .1);
+      end = none-true (p .end) (a .0);
+      lifeBegin = none-or (l .begin) (sameInstant (l .begin) (p .begin)) _ (same-true (l .begin) (p .begin)) (b .0);
+      lifeEnd = none-or (l .end) (sameInstant (l .end) (p .begin)) _ (same-true (l .end) (p .begin)) (c .0);
+      notBoth = none-or (l .begin) (isNone (l .end)) _ (none-true (l .end)) (c .1);
     }
 
 pub record TempdeltaTimes (p : Period) (l : Life) : Type 0 where
@@ -83,7 +83,7 @@ tempdelta-times p l h =
     let a = and-both _ _ (and-both (given (p .begin)) _ h .1) in
     let b = and-both _ _ (a .1) in
     record {
-      end = none-or (p .end) (before (p .begin) (p .end)) _ (ltb-true _ _) (a .0);
-      lifeBegin = eqb-true _ _ (b .0);
-      lifeEnd = eqb-true _ _ (b .1);
+      end = none-or (p .end) (before (p .begin) (p .end)) _ (before-true (p .begin) (p .end)) (a .0);
+      lifeBegin = none-true (l .begin) (b .0);
+      lifeEnd = none-true (l .end) (b .1);
     }

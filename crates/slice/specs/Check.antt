@@ -8,7 +8,7 @@ use Rattle.laws.specs.Lists.{any}
 use Rattle.laws.specs.Refusals.{Test, test, refuse}
 use Rattle.octets.specs.Bytes.{filled, sameBytes}
 use Rattle.property.specs.Eight.{breaks, eight}
-use Rattle.slice.specs.Numbers.{noInstant}
+use Rattle.numbers.specs.Numbers.{numbers}
 use Rattle.slice.specs.Record.{ofSide, recordSize, sliceSize, kindOf, flagsOf, cancelledOf, areaOf, viewOf}
 use Rattle.slice.specs.Rules.{baselineTimes, permdeltaTimes, tempdeltaTimes, timesOf, timesRight, contentOf, contentRight}
 use Rattle.slice.specs.declared.check.Checked.{Checked}
@@ -62,5 +62,5 @@ checkSlice stride feature side s = refuse refused (sliceTests stride feature sid
 
 -- `unfolding checking` opens every definition that the check computes by
 unfoldable pub checking : Unit {0}
-unfolding reservedClear emptied countedTests recordTests sliceTests checkRecord checkSlice noInstant ofSide viewOf baselineTimes permdeltaTimes tempdeltaTimes timesOf timesRight contentOf contentRight sameBytes eight
+unfolding reservedClear emptied countedTests recordTests sliceTests checkRecord checkSlice numbers ofSide viewOf baselineTimes permdeltaTimes tempdeltaTimes timesOf timesRight contentOf contentRight sameBytes eight
 checking = tt

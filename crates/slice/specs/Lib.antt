@@ -1,4 +1,3 @@
-pub mod Numbers
 pub mod Record
 pub mod Rules
 pub mod Check

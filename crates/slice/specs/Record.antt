@@ -7,8 +7,8 @@ use lib.Dec.{eqb, ltb}
 use Rattle.laws.specs.Orders.{lexLess}
 use Rattle.octets.specs.Bytes.{byteOf, beOf}
 use Rattle.property.specs.Eight.{propertiesOf, mentioned}
-use Rattle.slice.specs.declared.numbers.SequenceNumber.{SequenceNumber}
-use Rattle.slice.specs.declared.numbers.CorrectionNumber.{CorrectionNumber}
+use Rattle.numbers.specs.declared.SequenceNumber.{SequenceNumber}
+use Rattle.numbers.specs.declared.CorrectionNumber.{CorrectionNumber}
 use Rattle.slice.specs.declared.record.Key.{Key}
 use Rattle.slice.specs.declared.record.Period.{Period}
 use Rattle.slice.specs.declared.record.Life.{Life}

@@ -5,7 +5,7 @@ use lib.Dec.{eqb}
 use Rattle.laws.specs.Lists.{all, any}
 use Rattle.slice.specs.declared.record.Period.{Period}
 use Rattle.slice.specs.declared.record.Life.{Life}
-use Rattle.slice.specs.Numbers.{isNone, given, before, atMost, sameInstant}
+use Rattle.numbers.specs.Numbers.{isNone, given, before, atMost, sameInstant}
 use Rattle.slice.specs.Record.{baseline, permdelta, Slice, isMentioned}
 
 -- end none or after begin

@@ -7,7 +7,6 @@ ghost use Rattle.laws.specs.Refusals.{refuse};
 ghost use Rattle.slice.specs.Record.{recordSize};
 ghost use Rattle.slice.specs.Check.{numberOf, refused, reservedClear, emptied, countedTests, checkRecord, checkSlice};
 use crate::record::is_cancelled;
-use crate::record::kind_of;
 use crate::record::life_of;
 use crate::record::period_of;
 use crate::record::side_takes;
@@ -88,7 +87,7 @@ fn check_counted(record: &[u8], stride: usize) -> Checked
     let Eight::Mentions(mentions) = check_eight(&record[32..], stride) else {
         return refuse_with(14);
     };
-    let kind = kind_of(record);
+    let kind = byte(record, 0);
     let life = life_of(record);
     if !times_right(kind, period_of(record), life) {
         return refuse_with(15);
@@ -107,7 +106,7 @@ pub fn check_record(record: &[u8], stride: usize, side: u8) -> Checked
     if !is_sized(record, 32, stride) {
         return refuse_with(9);
     }
-    if !side_takes(side, kind_of(record)) {
+    if !side_takes(side, byte(record, 0)) {
         return refuse_with(11);
     }
     if !reserved_clear(record) {

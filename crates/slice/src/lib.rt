@@ -1,7 +1,6 @@
-// A time slice: its three numbers, the fields of its record, and the slice check. Each function answers
-// for every slice of bytes and every number, and none asks anything of its caller.
+// A time slice: the fields of its record, its key, period and life, and the slice check. Each function
+// answers for every slice of bytes, and none asks anything of its caller.
 mod check;
-mod numbers;
 mod record;
 mod rules;
 
@@ -10,9 +9,6 @@ pub use check::Refusal;
 pub use check::check_record;
 pub use check::check_slice;
 pub use check::number_of;
-pub use numbers::CorrectionNumber;
-pub use numbers::Instant;
-pub use numbers::SequenceNumber;
 pub use record::BASELINE;
 pub use record::Key;
 pub use record::Life;
@@ -24,7 +20,6 @@ pub use record::TEMPORARY;
 pub use record::correction_of;
 pub use record::is_cancelled;
 pub use record::key_of;
-pub use record::kind_of;
 pub use record::life_of;
 pub use record::period_of;
 pub use record::side_takes;

@@ -1,9 +1,9 @@
 // The fields of a record, read from its own bytes.
 ghost use mathlib.Core.Path.{_≡_};
-ghost use Rattle.slice.specs.Record.{ofSide, kindOf, cancelledOf, correctionOf, periodOf, lifeOf, keyOf, keyLess, sameKey};
-use crate::numbers::CorrectionNumber;
-use crate::numbers::Instant;
-use crate::numbers::SequenceNumber;
+ghost use Rattle.slice.specs.Record.{ofSide, cancelledOf, correctionOf, periodOf, lifeOf, keyOf, keyLess, sameKey};
+use numbers::CorrectionNumber;
+use numbers::Instant;
+use numbers::SequenceNumber;
 use octets::be16;
 use octets::be32;
 use octets::byte;
@@ -70,13 +70,6 @@ pub fn side_takes(side: u8, kind: u8) -> bool
         1 => kind == TEMPDELTA,
         _ => false,
     }
-}
-
-// The kind of a record.
-pub fn kind_of(record: &[u8]) -> u8
-    ensures { λ r. ⌜ r ≡ kindOf (now («record» .entry)) ⌝ }
-{
-    byte(record, 0)
 }
 
 // Whether a record is cancelled.

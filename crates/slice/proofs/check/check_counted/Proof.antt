@@ -51,14 +51,14 @@ mentions-of t = t .before .before .before .before .before
 
 times : (t : tie.After-times-right) → let r = R (mentions-of t .before .before) in
     t .times-right .result ≡ timesOf (kindOf r) (periodOf r) (lifeOf r)
-times t = t .times-right .ensures ∙ (λ i. timesOf (t .before .before .before .kind-of .ensures i) (t .before .period-of .ensures i) (t .before .before .life-of .ensures i))
+times t = t .times-right .ensures ∙ (λ i. timesOf (t .before .before .before .byte .ensures i) (t .before .period-of .ensures i) (t .before .before .life-of .ensures i))
 
 -- and so is the content
 content : (k : tie.After-content-right) → let t = k .before .before in let r = R (mentions-of t .before .before) in
     k .content-right .result ≡ contentOf (kindOf r) (lifeOf r) (eqb (n (mentions-of t)) 8) (ltb 0 (n (mentions-of t)))
 content k =
     let t = k .before .before in
-    k .content-right .ensures ∙ (λ i. contentOf (t .before .before .before .kind-of .ensures i) (t .before .before .life-of .ensures i) (eqb (n (mentions-of t)) 8) (ltb 0 (n (mentions-of t))))
+    k .content-right .ensures ∙ (λ i. contentOf (t .before .before .before .byte .ensures i) (t .before .before .life-of .ensures i) (eqb (n (mentions-of t)) 8) (ltb 0 (n (mentions-of t))))
 
 returns : tie.Need-returns
 returns c =

@@ -1,8 +1,10 @@
+use Rattle.numbers.specs.Numbers.{sameSequence}
 use borrow.Author.Needs.{needs}
 use Rattle.slice.proofs.record.Key.is.Statement.{statement}
 use Rattle.slice.proofs.record.Key.is.Tie as tie
 
 returns : tie.Need-returns
+unfolding sameSequence
 returns c =
     rw (c .is .ensures)
 

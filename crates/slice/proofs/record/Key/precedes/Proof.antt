@@ -1,10 +1,11 @@
+use Rattle.numbers.specs.Numbers.{lowerSequence}
 use Rattle.laws.specs.Orders.{lexLess}
 use borrow.Author.Needs.{needs}
 use Rattle.slice.proofs.record.Key.precedes.Statement.{statement}
 use Rattle.slice.proofs.record.Key.precedes.Tie as tie
 
 returns : tie.Need-returns
-unfolding lexLess
+unfolding lexLess lowerSequence
 returns c =
     rw (c .precedes .ensures)
 
