@@ -93,13 +93,18 @@ module _ (n : ℕ) (s : List ℕ) (at : ℕ) (bytes : Bytes s) (h : at + n ≤ l
       → each (λ i. eqb (byteOf s i) (byteOf t i)) n at ≡ eqb (beOf n s at) (beOf n t at)
   word-same t bytes' h' = rw (be-whole n s at h, be-whole n t at h') (sym (same-digits (byteOf s) (byteOf t) bytes bytes' n at))
 
-  pub filled-word : (v : ℕ) → v < 256 → filled v n s at ≡ eqb (beOf n s at) (digits (λ _. v) n at)
-  unfolding filled
-  filled-word v small = rw (le-leb _ _ h) (word-is v small)
-
-pub filled-short : (v n : ℕ) (s : List ℕ) (at : ℕ) → there n s at ≡ false → false ≡ filled v n s at
+-- n bytes that were found to be there, and whose number is r
+pub filled-word : (v : ℕ) → v < 256 → (n : ℕ) (s : List ℕ) (at : ℕ) → Bytes s → (all : Bool) → all ≡ there n s at → all ≡ true
+    → (r : ℕ) → r ≡ beOf n s at → eqb r (digits (λ _. v) n at) ≡ filled v n s at
 unfolding filled
-filled-short v n s at h = rw h
+filled-word v small n s at bytes all told held r is =
+    let h : there n s at ≡ true = sym told ∙ held in
+    rw (is, h) (sym (word-is n s at bytes (leb-true _ _ h) v small))
+
+-- n bytes that were found not to be there
+pub filled-short : (v n : ℕ) (s : List ℕ) (at : ℕ) (all : Bool) → all ≡ there n s at → all ≡ false → false ≡ filled v n s at
+unfolding filled
+filled-short v n s at all told failed = rw (sym told ∙ failed)
 
 -- all of a list
 pub filled-whole : (v : ℕ) (s : List ℕ) → filled v (length s) s 0 ≡ each (λ i. eqb (byteOf s i) v) (length s) 0

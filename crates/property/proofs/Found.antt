@@ -11,19 +11,19 @@ use Rattle.laws.specs.Lists.{pieces, any, count, first}
 use Rattle.octets.specs.Bytes.{byteOf}
 use Rattle.property.specs.Value.{mentions, isMention}
 use Rattle.property.specs.Layout.{decodeOf}
-use Rattle.property.specs.Eight.{propertiesOf, isBroken, breaks, mentioned, found, eightOf}
+use Rattle.property.specs.Eight.{propertiesOf, isBroken, breaks, mentioned, found, surveyOf}
 use Rattle.property.specs.declared.Value.{Value}
 use Rattle.property.specs.declared.Decoded.the-variants.{Good, Broken}
-use Rattle.property.specs.declared.Eight.{Eight}
-use Rattle.property.specs.declared.Eight.the-variants.{FirstBad, Mentions}
+use Rattle.property.specs.declared.Survey.{Survey}
+use Rattle.property.specs.declared.Survey.the-variants.{FirstBad, Mentions}
 use Rattle.property.proofs.Forms.{decode-form, decode-sized}
 
 -- what is found from property i on, m being mentioned before it
-abbrev pub foundFrom : ℕ → ℕ → List (List ℕ) → Eight
+abbrev pub foundFrom : ℕ → ℕ → List (List ℕ) → Survey
 foundFrom i m ps = cond (any breaks ps) (FirstBad (i + first breaks ps)) (Mentions (m + count mentioned ps))
 
-pub found-start : (stride : ℕ) (bytes : List ℕ) → eightOf stride bytes ≡ foundFrom 0 0 (pieces stride 8 bytes)
-unfolding eightOf propertiesOf
+pub found-start : (stride : ℕ) (bytes : List ℕ) → surveyOf stride bytes ≡ foundFrom 0 0 (pieces stride 8 bytes)
+unfolding surveyOf propertiesOf
 found-start stride bytes = rw (zero-add (first breaks (pieces stride 8 bytes)), zero-add (count mentioned (pieces stride 8 bytes)))
 
 pub found-bad : (i m : ℕ) (p : List ℕ) (ps : List (List ℕ)) → breaks p ≡ true → foundFrom i m (p ∷ ps) ≡ FirstBad i
@@ -34,7 +34,7 @@ pub found-on : (i m : ℕ) (p : List ℕ) (ps : List (List ℕ)) → breaks p �
 found-on i m p ps h =
     let e : i + suc (first breaks ps) ≡ i + 1 + first breaks ps = omega arith in
     let f : m + (cond (mentioned p) 1 0 + count mentioned ps) ≡ m + cond (mentioned p) 1 0 + count mentioned ps = omega arith in
-    rw h (ap (λ (x : Eight × Eight). cond (any breaks ps) (x .0) (x .1)) (λ k. (FirstBad (e k), Mentions (f k))))
+    rw h (ap (λ (x : Survey × Survey). cond (any breaks ps) (x .0) (x .1)) (λ k. (FirstBad (e k), Mentions (f k))))
 
 pub found-end : (i m : ℕ) → foundFrom i m [] ≡ Mentions m
 found-end i m = rw add-zero
@@ -82,11 +82,11 @@ sound : (b : Bool) (i m n : ℕ) → cond b (FirstBad i) (Mentions m) ≡ Mentio
 sound true i m n e = (cc, cc)
 sound false i m n e = (refl, cc)
 
-pub eight-bad : (stride : ℕ) (bytes : List ℕ) (i : ℕ) → eightOf stride bytes ≡ FirstBad i → any breaks (propertiesOf stride bytes) ≡ true
-unfolding eightOf
-eight-bad stride bytes i e = bad _ _ _ i e
+pub survey-bad : (stride : ℕ) (bytes : List ℕ) (i : ℕ) → surveyOf stride bytes ≡ FirstBad i → any breaks (propertiesOf stride bytes) ≡ true
+unfolding surveyOf
+survey-bad stride bytes i e = bad _ _ _ i e
 
-pub eight-sound : (stride : ℕ) (bytes : List ℕ) (n : ℕ) → eightOf stride bytes ≡ Mentions n
+pub survey-sound : (stride : ℕ) (bytes : List ℕ) (n : ℕ) → surveyOf stride bytes ≡ Mentions n
     → (any breaks (propertiesOf stride bytes) ≡ false) × (n ≡ count mentioned (propertiesOf stride bytes))
-unfolding eightOf
-eight-sound stride bytes n e = sound _ _ _ n e
+unfolding surveyOf
+survey-sound stride bytes n e = sound _ _ _ n e

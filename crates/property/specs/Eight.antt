@@ -9,8 +9,8 @@ use Rattle.property.specs.Value.{mentions}
 use Rattle.property.specs.Layout.{decodeOf, layout}
 use Rattle.property.specs.declared.Decoded.{Decoded}
 use Rattle.property.specs.declared.Decoded.the-variants.{Good, Broken}
-use Rattle.property.specs.declared.Eight.{Eight}
-use Rattle.property.specs.declared.Eight.the-variants.{FirstBad, Mentions}
+use Rattle.property.specs.declared.Survey.{Survey}
+use Rattle.property.specs.declared.Survey.the-variants.{FirstBad, Mentions}
 
 unfoldable pub propertiesOf : ℕ → List ℕ → List (List ℕ)
 propertiesOf stride bytes = pieces stride 8 bytes
@@ -32,13 +32,13 @@ unfoldable pub mentioned : List ℕ → Bool
 mentioned p = mentions (byteOf p 0)
 
 -- the first property that breaks the layout; where none does, how many are mentioned
-abbrev pub found : List (List ℕ) → Eight
+abbrev pub found : List (List ℕ) → Survey
 found ps = cond (any breaks ps) (FirstBad (first breaks ps)) (Mentions (count mentioned ps))
 
-unfoldable pub eightOf : ℕ → List ℕ → Eight
-eightOf stride bytes = found (propertiesOf stride bytes)
+unfoldable pub surveyOf : ℕ → List ℕ → Survey
+surveyOf stride bytes = found (propertiesOf stride bytes)
 
 -- `unfolding eight` opens every definition of this file, and those of the layout
 unfoldable pub eight : Unit {0}
-unfolding propertiesOf breaks mentioned eightOf layout
+unfolding propertiesOf breaks mentioned surveyOf layout
 eight = tt

@@ -7,7 +7,7 @@ ghost use mathlib.Core.Bool.{cond};
 ghost use Prim.Native.Nat.{_≤_};
 ghost use lib.ListN.{length, drop};
 ghost use Rattle.property.specs.Layout.{unused, signed, only, withDetail, nils, inUnits, unmentionedOf, nilOf, codeOf, numberOf, lengthOf, pointOf, formReading, decodeOf};
-ghost use Rattle.property.specs.Eight.{eightOf};
+ghost use Rattle.property.specs.Eight.{surveyOf};
 
 mod double;
 
@@ -60,7 +60,7 @@ pub enum Decoded {
 
 // What the check of a record's eight properties finds: the place of the first that breaks the layout,
 // or, where none does, how many are mentioned.
-pub enum Eight {
+pub enum Survey {
     FirstBad(usize),
     Mentions(usize),
 }
@@ -259,26 +259,26 @@ fn past(bytes: &[u8], at: usize, stride: usize) -> usize
 
 // What the check of eight properties of `stride` bytes each finds. A property that is not all there
 // breaks the layout.
-pub fn check_eight(bytes: &[u8], stride: usize) -> Eight
-    ensures { λ r. ⌜ r ≡ eightOf stride (now (bytes .entry)) ⌝ }
+pub fn check_eight(bytes: &[u8], stride: usize) -> Survey
+    ensures { λ r. ⌜ r ≡ surveyOf stride (now (bytes .entry)) ⌝ }
 {
     if stride < 24 {
-        return Eight::FirstBad(0);
+        return Survey::FirstBad(0);
     }
     let mut at = 0;
     let mut mentioned = 0;
     let mut i = 0;
     while i < 8 {
         if bytes.len() - at < 24 {
-            return Eight::FirstBad(i);
+            return Survey::FirstBad(i);
         }
         let end = at + 24;
         let Decoded::Good(value) = decode(&bytes[at..end]) else {
-            return Eight::FirstBad(i);
+            return Survey::FirstBad(i);
         };
         mentioned += tally(value);
         at = past(bytes, at, stride);
         i += 1;
     }
-    Eight::Mentions(mentioned)
+    Survey::Mentions(mentioned)
 }

@@ -17,7 +17,7 @@ use octets::blank8;
 use octets::byte;
 use octets::full8;
 use octets::same;
-use property::Eight;
+use property::Survey;
 use property::check_eight;
 
 // A refusal, by its number.
@@ -84,7 +84,7 @@ fn check_counted(record: &[u8], stride: usize) -> Checked
     requires { ⌜ length (now «record») ≡ recordSize stride ⌝ }
     ensures { λ r. ⌜ r ≡ refuse refused (countedTests stride (now («record» .entry))) Checked.Sound ⌝ }
 {
-    let Eight::Mentions(mentions) = check_eight(&record[32..], stride) else {
+    let Survey::Mentions(mentions) = check_eight(&record[32..], stride) else {
         return refuse_with(14);
     };
     let kind = byte(record, 0);

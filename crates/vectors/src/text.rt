@@ -1,9 +1,9 @@
 // The text of an answer. Each function writes at a place of the bytes that it is lent, and answers the
 // place after what it wrote: the same place where there is no room.
 use property::Decoded;
-use property::Eight;
 use property::LengthUnit;
 use property::Position;
+use property::Survey;
 use property::Value;
 use slice::Checked;
 
@@ -120,13 +120,13 @@ pub fn put_decoded(out: &mut [u8], at: usize, d: Decoded) -> usize {
 }
 
 // Writes the line of what the check of eight properties finds.
-pub fn put_eight(out: &mut [u8], at: usize, e: Eight) -> usize {
+pub fn put_eight(out: &mut [u8], at: usize, e: Survey) -> usize {
     match e {
-        Eight::FirstBad(i) => {
+        Survey::FirstBad(i) => {
             let a = put(out, at, b"bad ");
             put_decimal(out, a, i as u64)
         }
-        Eight::Mentions(n) => {
+        Survey::Mentions(n) => {
             let a = put(out, at, b"sound ");
             put_decimal(out, a, n as u64)
         }

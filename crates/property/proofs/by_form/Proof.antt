@@ -1,7 +1,8 @@
-use Rattle.property.specs.Layout.{formReading}
-use borrow.Author.Tests.{ne-eqb}
+-- `property::by_form` meets its contract: each arm is the reading of its form, and the last is reached by no form. Assumes nothing.
 use mathlib.Core.Path.{_∙_, sym}
+use borrow.Author.Tests.{ne-eqb}
 use borrow.Author.Needs.{needs}
+use Rattle.property.specs.Layout.{formReading}
 use Rattle.property.proofs.by_form.Statement.{statement}
 use Rattle.property.proofs.by_form.Tie as tie
 

@@ -1,7 +1,7 @@
 -- `property::check_eight` meets its contract. The loop's invariant: what is found of the eight is what is found from property i on, which
 -- starts at `at`, after so many mentions. Assumes nothing.
-use Prim.Native.Nat.{ℕ, _+_, _-_, _≤_, _<_}
-use mathlib.Core.Path.{_≡_, sym, _∙_, ap}
+use Prim.Native.Nat.{_+_, _-_, _≤_}
+use mathlib.Core.Path.{_≡_, sym, _∙_}
 use mathlib.Core.Bool.{Bool, true, false, cond}
 use native.Mathlib.Omega.{arith}
 use lib.ListN.{length, take, drop, length-take, length-drop}
@@ -9,14 +9,14 @@ use borrow.Author.Needs.{needs}
 use Rattle.laws.specs.Lists.{pieces}
 use Rattle.property.specs.Value.{isMention}
 use Rattle.property.specs.Layout.{decodeOf}
-use Rattle.property.specs.Eight.{breaks, eightOf}
+use Rattle.property.specs.Eight.{surveyOf}
 use Rattle.property.proofs.Found.{foundFrom, found-start, found-end, breaks-less, turn-bad, turn-less, turn-broken, turn-good}
 use Rattle.property.proofs.check_eight.Statement.{statement}
 use Rattle.property.proofs.check_eight.Tie as tie
 
 abbrev Inv-loop : tie.InvT-loop
 Inv-loop bytes stride at₀ mentioned₀ i₀ at mentioned i =
-    (i ≤ 8) × ((at ≤ length bytes) × ((mentioned ≤ i) × (eightOf stride bytes ≡ foundFrom i mentioned (pieces stride (8 - i) (drop at bytes)))))
+    (i ≤ 8) × ((at ≤ length bytes) × ((mentioned ≤ i) × (surveyOf stride bytes ≡ foundFrom i mentioned (pieces stride (8 - i) (drop at bytes)))))
 
 abbrev μ-loop : tie.MeasureT-loop
 μ-loop bytes stride at₀ mentioned₀ i₀ at mentioned i = 8 - i

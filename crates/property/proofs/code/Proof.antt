@@ -1,5 +1,6 @@
-use Rattle.property.specs.Layout.{codeOf}
+-- `property::code` meets its contract: the pieces are those of the definition. Assumes nothing.
 use borrow.Author.Needs.{needs}
+use Rattle.property.specs.Layout.{codeOf}
 use Rattle.property.proofs.code.Statement.{statement}
 use Rattle.property.proofs.code.Tie as tie
 

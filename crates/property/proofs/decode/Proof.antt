@@ -1,8 +1,8 @@
-use Rattle.property.specs.Layout.{decodeOf, only}
-use mathlib.Core.Path.{sym, _∙_}
+-- `property::decode` meets its contract: 24 bytes whose bytes 2 to 7 are zero are read by their form. Assumes nothing.
 use borrow.Author.Tests.{eq-eqb, ne-eqb}
-use Rattle.octets.proofs.Runs.{filled-join}
 use borrow.Author.Needs.{needs}
+use Rattle.octets.proofs.Runs.{filled-join}
+use Rattle.property.specs.Layout.{decodeOf, only}
 use Rattle.property.proofs.decode.Statement.{statement}
 use Rattle.property.proofs.decode.Tie as tie
 

@@ -1,3 +1,4 @@
+-- `property::is_mention` meets its contract: each case computes. Assumes nothing.
 use borrow.Author.Needs.{needs}
 use Rattle.property.proofs.is_mention.Statement.{statement}
 use Rattle.property.proofs.is_mention.Tie as tie

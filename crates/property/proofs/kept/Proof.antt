@@ -1,3 +1,4 @@
+-- `property::kept` meets its contract: each arm rewrites with its test. Assumes nothing.
 use Rattle.property.specs.Layout.{only}
 use Rattle.property.proofs.kept.Statement.{statement}
 use Rattle.property.proofs.kept.Tie as tie

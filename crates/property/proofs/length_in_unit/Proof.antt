@@ -1,5 +1,6 @@
-use Rattle.property.specs.Layout.{lengthOf}
+-- `property::length_in_unit` meets its contract: the pieces are those of the definition. Assumes nothing.
 use borrow.Author.Needs.{needs}
+use Rattle.property.specs.Layout.{lengthOf}
 use Rattle.property.proofs.length_in_unit.Statement.{statement}
 use Rattle.property.proofs.length_in_unit.Tie as tie
 

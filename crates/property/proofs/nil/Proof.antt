@@ -1,5 +1,6 @@
-use Rattle.property.specs.Layout.{nilOf}
+-- `property::nil` meets its contract: the pieces are those of the definition. Assumes nothing.
 use borrow.Author.Needs.{needs}
+use Rattle.property.specs.Layout.{nilOf}
 use Rattle.property.proofs.nil.Statement.{statement}
 use Rattle.property.proofs.nil.Tie as tie
 

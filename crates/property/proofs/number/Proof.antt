@@ -1,7 +1,8 @@
-use Rattle.property.specs.Layout.{numberOf}
+-- `property::number` meets its contract: the pieces are those of the definition. Assumes nothing.
 use mir.Syntax.{w32}
 use mir.ValLaws.{toZ-ofZ}
 use borrow.Author.Needs.{needs}
+use Rattle.property.specs.Layout.{numberOf}
 use Rattle.property.proofs.number.Statement.{statement}
 use Rattle.property.proofs.number.Tie as tie
 

@@ -1,5 +1,6 @@
+-- `property::past` meets its contract: what is left past the end is nothing, and else the two drops are one. Assumes nothing.
 use Prim.Native.Nat.{_+_, _≤_}
-use mathlib.Core.Path.{_≡_, sym, _∙_}
+use mathlib.Core.Path.{sym, _∙_}
 use native.Mathlib.Omega.{arith}
 use lib.ListN.{length, drop-of-length-le}
 use lib.Seq.{drop-drop, drop-length}

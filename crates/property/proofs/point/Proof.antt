@@ -1,8 +1,9 @@
-use Rattle.property.specs.Layout.{degrees, pointOf}
+-- `property::point` meets its contract: the pieces are those of the definition. Assumes nothing.
 use mathlib.Core.Path.{_≡_, refl, _∙_}
 use mathlib.Core.Bool.{_&&_}
 use lib.Ieee.{Float, binary64, ofBits, ofInt, neg, le}
 use borrow.Author.Needs.{needs}
+use Rattle.property.specs.Layout.{degrees, pointOf}
 use Rattle.property.proofs.point.Statement.{statement}
 use Rattle.property.proofs.point.Tie as tie
 

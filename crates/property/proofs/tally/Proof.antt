@@ -1,3 +1,4 @@
+-- `property::tally` meets its contract: each arm rewrites with its test. Assumes nothing.
 use mathlib.Core.Path.{sym, _∙_}
 use borrow.Author.Needs.{needs}
 use Rattle.property.proofs.tally.Statement.{statement}

@@ -1,5 +1,6 @@
-use Rattle.property.specs.Layout.{unmentionedOf}
+-- `property::unmentioned` meets its contract: the pieces are those of the definition. Assumes nothing.
 use borrow.Author.Needs.{needs}
+use Rattle.property.specs.Layout.{unmentionedOf}
 use Rattle.property.proofs.unmentioned.Statement.{statement}
 use Rattle.property.proofs.unmentioned.Tie as tie
 

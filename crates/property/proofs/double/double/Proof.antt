@@ -1,9 +1,10 @@
-use borrow.Author.Tests.{le-ltb}
+-- `property::double::double` meets its contract: above the pattern of an infinity stand the NaNs. Assumes nothing.
 use mathlib.Core.Path.{refl}
 use lib.Ieee.{binary64, div, ofBits}
 use lib.Ieee.Bits.{nanBits-above}
-use Rattle.property.proofs.Doubles.{nan-above}
+use borrow.Author.Tests.{le-ltb}
 use borrow.Author.Needs.{needs}
+use Rattle.property.proofs.Doubles.{nan-above}
 use Rattle.property.proofs.double.double.Statement.{statement}
 use Rattle.property.proofs.double.double.Tie as tie
 

@@ -1,3 +1,4 @@
+-- `property::double::is_finite` meets its contract: below the pattern of an infinity stand the finite doubles. Assumes nothing.
 use Rattle.property.proofs.Doubles.{finite-below}
 use Rattle.property.proofs.double.is_finite.Statement.{statement}
 use Rattle.property.proofs.double.is_finite.Tie as tie

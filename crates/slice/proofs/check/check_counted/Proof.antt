@@ -1,26 +1,27 @@
+-- `slice::check::check_counted` meets its contract: past each test, what is left of rules 14 to 16; the rest of a record is its properties, and their mentions are counted. Assumes nothing.
+use Prim.Native.Nat.{ℕ}
 use mathlib.Core.Path.{_≡_, sym, _∙_}
-use mathlib.Core.Bool.{true, false, cond, not}
+use mathlib.Core.Bool.{cond, not}
+use mathlib.Core.List.{List}
 use lib.ListN.{drop}
 use lib.Dec.{eqb, ltb}
-use Prim.Native.Nat.{ℕ}
-use mathlib.Core.List.{List}
 use borrow.Author.Tests.{not-true, not-false}
+use borrow.Author.Needs.{needs}
 use Rattle.laws.proofs.Lists.{rest-whole}
-use Rattle.property.specs.Eight.{eightOf}
-use Rattle.property.proofs.Found.{eight-bad, eight-sound}
 use Rattle.laws.specs.Refusals.{refuse}
+use Rattle.property.specs.Eight.{surveyOf}
+use Rattle.property.proofs.Found.{survey-bad, survey-sound}
 use Rattle.slice.specs.Record.{kindOf, periodOf, lifeOf}
 use Rattle.slice.specs.Rules.{timesOf, contentOf}
 use Rattle.slice.specs.Check.{refused, countedTests}
 use Rattle.slice.specs.declared.check.Checked.the-variants.{Sound}
 use Rattle.slice.proofs.View.{counted-is}
-use borrow.Author.Needs.{needs}
 use Rattle.slice.proofs.check.check_counted.Statement.{statement}
 use Rattle.slice.proofs.check.check_counted.Tie as tie
 
 -- the properties are those from byte 32 on
 eight : (c : tie.After-check-eight) → let a = c .before .before .before .args in
-    c .check-eight .result ≡ eightOf (a .stride) (drop 32 (a .«record» .now))
+    c .check-eight .result ≡ surveyOf (a .stride) (drop 32 (a .«record» .now))
 eight c = rw (rest-whole 32 (c .before .before .before .args .«record» .now)) at (c .check-eight .ensures)
 
 abbrev start : tie.After-check-eight → tie.Start
@@ -42,7 +43,7 @@ module _ (c : tie.After-mentions) where
       (cond (not (contentOf (kindOf (R (c .before .before))) (lifeOf (R (c .before .before))) (eqb n 8) (ltb 0 n))) (refused 16) Sound)
   past14 =
       let d = c .before .before in
-      let told = eight-sound (S d) (drop 32 (R d)) n (sym (eight d) ∙ c .mentions .given .1) in
+      let told = survey-sound (S d) (drop 32 (R d)) n (sym (eight d) ∙ c .mentions .given .1) in
       counted-is (S d) (R d) ∙ rw (told .0, ← told .1)
 
 -- the times are those of the record
@@ -64,7 +65,7 @@ returns : tie.Need-returns
 returns c =
     let d = c .before .before .before in
     let told = c .before .enum-told .given in
-    c .refuse-with .ensures ∙ sym (counted-is (S d) (R d) ∙ rw (eight-bad (S d) (drop 32 (R d)) (told .0 .0) (sym (eight d) ∙ told .1)))
+    c .refuse-with .ensures ∙ sym (counted-is (S d) (R d) ∙ rw (survey-bad (S d) (drop 32 (R d)) (told .0 .0) (sym (eight d) ∙ told .1)))
 
 returns-2 : tie.Need-returns-2
 returns-2 c =

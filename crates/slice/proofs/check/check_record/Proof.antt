@@ -1,3 +1,4 @@
+-- `slice::check::check_record` meets its contract: past each test, what is left of the check. Assumes nothing.
 use Prim.Native.Nat.{ℕ}
 use mathlib.Core.Path.{_≡_, sym, _∙_, ap}
 use mathlib.Core.List.{List}
@@ -5,13 +6,13 @@ use mathlib.Core.Bool.{true, not, cond}
 use lib.ListN.{length}
 use lib.Dec.{eqb}
 use borrow.Author.Tests.{not-true, not-false, eqb-true}
+use borrow.Author.Needs.{needs}
 use Rattle.laws.specs.Refusals.{refuse}
 use Rattle.slice.specs.Record.{recordSize, ofSide, kindOf}
 use Rattle.slice.specs.Check.{refused, reservedClear, recordTests, checkRecord}
 use Rattle.slice.specs.declared.check.Checked.{Checked}
 use Rattle.slice.proofs.Stages.{from13, rules-are, record-is}
 use Rattle.slice.specs.declared.check.Checked.the-variants.{Sound}
-use borrow.Author.Needs.{needs}
 use Rattle.slice.proofs.check.check_record.Statement.{statement}
 use Rattle.slice.proofs.check.check_record.Tie as tie
 

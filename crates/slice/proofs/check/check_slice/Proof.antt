@@ -1,11 +1,12 @@
-use Prim.Native.Nat.{ℕ, _+_, _*_, _-_, _≤_}
-use mathlib.Core.Path.{_≡_, sym, _∙_, ap}
+-- `slice::check::check_slice` meets its contract: past 9 and 10 what is left is the check of a record. Assumes nothing.
+use Prim.Native.Nat.{ℕ, _-_}
+use mathlib.Core.Path.{_≡_, sym, _∙_}
 use mathlib.Core.List.{List}
-use mathlib.Core.Bool.{true, not, cond}
+use mathlib.Core.Bool.{not, cond}
 use native.Mathlib.Omega.{arith}
 use lib.ListN.{length, take, drop, length-drop}
-use lib.Dec.{eqb}
 use borrow.Author.Tests.{not-true, not-false, eqb-true, eq-eqb}
+use borrow.Author.Needs.{needs}
 use Rattle.laws.specs.Refusals.{refuse}
 use Rattle.laws.proofs.Lists.{rest-whole}
 use Rattle.octets.specs.Bytes.{sameBytes}
@@ -14,7 +15,6 @@ use Rattle.slice.specs.Check.{refused, recordTests, checkSlice}
 use Rattle.slice.specs.declared.check.Checked.{Checked}
 use Rattle.slice.specs.declared.check.Checked.the-variants.{Sound}
 use Rattle.slice.proofs.Stages.{record-is, slice-is}
-use borrow.Author.Needs.{needs}
 use Rattle.slice.proofs.check.check_slice.Statement.{statement}
 use Rattle.slice.proofs.check.check_slice.Tie as tie
 

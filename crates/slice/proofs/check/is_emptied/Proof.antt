@@ -1,12 +1,13 @@
-use Prim.Native.Nat.{_≤_, _*_, _-_}
-use mathlib.Core.Path.{_≡_, sym, _∙_, ap}
+-- `slice::check::is_emptied` meets its contract: the part from byte 32 on is blank where the record's bytes there are. Assumes nothing.
+use Prim.Native.Nat.{_*_, _-_}
+use mathlib.Core.Path.{_≡_, _∙_}
 use native.Mathlib.Omega.{arith}
 use lib.ListN.{length, drop, length-drop}
+use borrow.Author.Needs.{needs}
 use Rattle.laws.proofs.Lists.{rest-whole}
 use Rattle.octets.specs.Bytes.{filled}
 use Rattle.octets.proofs.Runs.{filled-join, filled-drop}
 use Rattle.slice.specs.Check.{emptied}
-use borrow.Author.Needs.{needs}
 use Rattle.slice.proofs.check.is_emptied.Statement.{statement}
 use Rattle.slice.proofs.check.is_emptied.Tie as tie
 

@@ -1,11 +1,12 @@
-use Prim.Native.Nat.{_+_, _-_, _*_, _/_, _≤_, _<_}
-use mathlib.Core.Path.{_≡_, sym}
+-- `slice::check::is_sized` meets its contract: the rest is eight strides where it is a multiple of eight and its eighth is the stride. Assumes nothing.
+use Prim.Native.Nat.{_+_, _-_, _*_, _/_}
+use mathlib.Core.Path.{sym}
 use native.Mathlib.Omega.{arith}
 use lib.ListN.{length}
 use lib.Dec.{eqb}
 use borrow.Author.Tests.{ne-eqb}
-use Rattle.laws.proofs.Tests.{tests, iff}
 use borrow.Author.Needs.{needs}
+use Rattle.laws.proofs.Tests.{tests, iff}
 use Rattle.slice.proofs.check.is_sized.Statement.{statement}
 use Rattle.slice.proofs.check.is_sized.Tie as tie
 

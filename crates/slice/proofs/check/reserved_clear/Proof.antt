@@ -1,5 +1,6 @@
-use Rattle.slice.specs.Check.{reservedClear}
+-- `slice::check::reserved_clear` meets its contract: the pieces are those of the definition. Assumes nothing.
 use borrow.Author.Needs.{needs}
+use Rattle.slice.specs.Check.{reservedClear}
 use Rattle.slice.proofs.check.reserved_clear.Statement.{statement}
 use Rattle.slice.proofs.check.reserved_clear.Tie as tie
 

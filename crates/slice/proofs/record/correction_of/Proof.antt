@@ -1,3 +1,4 @@
+-- `slice::record::correction_of` meets its contract. Assumes nothing.
 use borrow.Author.Needs.{needs}
 use Rattle.slice.proofs.record.correction_of.Statement.{statement}
 use Rattle.slice.proofs.record.correction_of.Tie as tie

@@ -1,3 +1,4 @@
+-- `slice::record::is_cancelled` meets its contract. Assumes nothing.
 use borrow.Author.Needs.{needs}
 use Rattle.slice.proofs.record.is_cancelled.Statement.{statement}
 use Rattle.slice.proofs.record.is_cancelled.Tie as tie

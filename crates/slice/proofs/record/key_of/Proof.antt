@@ -1,3 +1,4 @@
+-- `slice::record::key_of` meets its contract. Assumes nothing.
 use borrow.Author.Needs.{needs}
 use Rattle.slice.proofs.record.key_of.Statement.{statement}
 use Rattle.slice.proofs.record.key_of.Tie as tie

@@ -1,3 +1,4 @@
+-- `slice::record::life_of` meets its contract. Assumes nothing.
 use borrow.Author.Needs.{needs}
 use Rattle.slice.proofs.record.life_of.Statement.{statement}
 use Rattle.slice.proofs.record.life_of.Tie as tie

@@ -1,3 +1,4 @@
+-- `slice::record::period_of` meets its contract. Assumes nothing.
 use borrow.Author.Needs.{needs}
 use Rattle.slice.proofs.record.period_of.Statement.{statement}
 use Rattle.slice.proofs.record.period_of.Tie as tie

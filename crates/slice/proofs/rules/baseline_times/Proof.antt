@@ -1,5 +1,6 @@
-use Rattle.slice.specs.Rules.{baselineTimes}
+-- `slice::rules::baseline_times` meets its contract: the pieces are those of the definition. Assumes nothing.
 use borrow.Author.Needs.{needs}
+use Rattle.slice.specs.Rules.{baselineTimes}
 use Rattle.slice.proofs.rules.baseline_times.Statement.{statement}
 use Rattle.slice.proofs.rules.baseline_times.Tie as tie
 

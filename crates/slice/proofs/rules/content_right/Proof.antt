@@ -1,6 +1,7 @@
+-- `slice::rules::content_right` meets its contract: each return rewrites with the tests that led there. Assumes nothing.
 use borrow.Author.Tests.{ne-eqb}
-use Rattle.slice.specs.Rules.{contentOf}
 use borrow.Author.Needs.{needs}
+use Rattle.slice.specs.Rules.{contentOf}
 use Rattle.slice.proofs.rules.content_right.Statement.{statement}
 use Rattle.slice.proofs.rules.content_right.Tie as tie
 

@@ -1,3 +1,4 @@
+-- `slice::rules::end_right` meets its contract: the pieces are those of the definition. Assumes nothing.
 use borrow.Author.Needs.{needs}
 use Rattle.slice.proofs.rules.end_right.Statement.{statement}
 use Rattle.slice.proofs.rules.end_right.Tie as tie

@@ -1,5 +1,6 @@
-use Rattle.slice.specs.Rules.{permdeltaTimes}
+-- `slice::rules::permdelta_times` meets its contract: the pieces are those of the definition. Assumes nothing.
 use borrow.Author.Needs.{needs}
+use Rattle.slice.specs.Rules.{permdeltaTimes}
 use Rattle.slice.proofs.rules.permdelta_times.Statement.{statement}
 use Rattle.slice.proofs.rules.permdelta_times.Tie as tie
 

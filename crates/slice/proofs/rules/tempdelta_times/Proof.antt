@@ -1,5 +1,6 @@
-use Rattle.slice.specs.Rules.{tempdeltaTimes}
+-- `slice::rules::tempdelta_times` meets its contract: the pieces are those of the definition. Assumes nothing.
 use borrow.Author.Needs.{needs}
+use Rattle.slice.specs.Rules.{tempdeltaTimes}
 use Rattle.slice.proofs.rules.tempdelta_times.Statement.{statement}
 use Rattle.slice.proofs.rules.tempdelta_times.Tie as tie
 

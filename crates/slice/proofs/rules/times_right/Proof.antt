@@ -1,7 +1,8 @@
+-- `slice::rules::times_right` meets its contract: each return rewrites with the tests that led there. Assumes nothing.
 use mathlib.Core.Path.{sym, _∙_}
 use borrow.Author.Tests.{ne-eqb}
-use Rattle.slice.specs.Rules.{timesOf}
 use borrow.Author.Needs.{needs}
+use Rattle.slice.specs.Rules.{timesOf}
 use Rattle.slice.proofs.rules.times_right.Statement.{statement}
 use Rattle.slice.proofs.rules.times_right.Tie as tie
 

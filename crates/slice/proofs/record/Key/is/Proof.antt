@@ -1,5 +1,6 @@
-use Rattle.numbers.specs.Numbers.{sameSequence}
+-- `slice::record::Key::is` meets its contract. Assumes nothing.
 use borrow.Author.Needs.{needs}
+use Rattle.numbers.specs.Numbers.{sameSequence}
 use Rattle.slice.proofs.record.Key.is.Statement.{statement}
 use Rattle.slice.proofs.record.Key.is.Tie as tie
 

@@ -1,6 +1,7 @@
-use Rattle.numbers.specs.Numbers.{lowerSequence}
-use Rattle.laws.specs.Orders.{lexLess}
+-- `slice::record::Key::precedes` meets its contract. Assumes nothing.
 use borrow.Author.Needs.{needs}
+use Rattle.laws.specs.Orders.{lexLess}
+use Rattle.numbers.specs.Numbers.{lowerSequence}
 use Rattle.slice.proofs.record.Key.precedes.Statement.{statement}
 use Rattle.slice.proofs.record.Key.precedes.Tie as tie
 
