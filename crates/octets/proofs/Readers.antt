@@ -5,8 +5,8 @@ use mathlib.Core.List.{List}
 use native.Mathlib.Nat.{pow-suc}
 use native.Mathlib.Omega.{arith}
 use lib.ListN.{length}
-use Rattle.laws.proofs.Tests.{pick-ind}
 use borrow.Author.Tests.{le-leb, lt-leb}
+use Rattle.laws.proofs.Tests.{pick-ind}
 use Rattle.octets.specs.Bytes.{byteOf, digits, there, beOf}
 
 module _ (n : ℕ) (s : List ℕ) (at : ℕ) where

@@ -5,10 +5,10 @@ use mathlib.Core.List.{List}
 use mathlib.Core.Bool.{Bool, true, false, _&&_}
 use native.Mathlib.Nat.{add-zero, zero-add}
 use native.Mathlib.Omega.{arith}
-use lib.ListN.{length, getD, drop, length-drop}
+use lib.ListN.{length, drop, length-drop}
 use lib.Seq.{ext-getD, getD-drop}
 use lib.Dec.{leb, eqb}
-use borrow.Author.Tests.{le-leb, lt-leb, eq-eqb, ne-eqb, leb-true, eqb-true, eqb-false}
+use borrow.Author.Tests.{le-leb, eq-eqb, leb-true, eqb-true, eqb-false}
 use Rattle.laws.proofs.Tests.{tests, iff, and-assoc, and-both, and-true, and-false}
 use Rattle.octets.specs.Bytes.{byteOf, digits, each, there, beOf, filled, sameBytes}
 use Rattle.octets.proofs.Readers.{be-whole}

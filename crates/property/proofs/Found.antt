@@ -3,20 +3,19 @@ use Prim.Native.Nat.{ℕ, suc, _+_, _-_, _≤_, _<_}
 use mathlib.Core.Path.{_≡_, refl, sym, _∙_, ap}
 use mathlib.Core.List.{List, [], _∷_}
 use mathlib.Core.Bool.{Bool, true, false, cond}
-use native.Mathlib.Nat.{zero-add, add-zero, add-assoc}
+use native.Mathlib.Nat.{zero-add, add-zero}
 use native.Mathlib.Omega.{arith}
 use lib.ListN.{length, take, drop, length-take}
 use lib.Seq.{take-take, getD-take}
 use Rattle.laws.specs.Lists.{pieces, any, count, first}
-use Rattle.octets.specs.Bytes.{byteOf}
 use Rattle.property.specs.Value.{mentions, isMention}
 use Rattle.property.specs.Layout.{decodeOf}
-use Rattle.property.specs.Eight.{propertiesOf, isBroken, breaks, mentioned, found, surveyOf}
+use Rattle.property.specs.Eight.{propertiesOf, isBroken, breaks, mentioned, surveyOf}
 use Rattle.property.specs.declared.Value.{Value}
 use Rattle.property.specs.declared.Decoded.the-variants.{Good, Broken}
 use Rattle.property.specs.declared.Survey.{Survey}
 use Rattle.property.specs.declared.Survey.the-variants.{FirstBad, Mentions}
-use Rattle.property.proofs.Forms.{decode-form, decode-sized}
+use Rattle.property.proofs.Forms.{decode-numbers, decode-sized}
 
 -- what is found from property i on, m being mentioned before it
 abbrev pub foundFrom : ℕ → ℕ → List (List ℕ) → Survey
@@ -69,7 +68,7 @@ module _ (stride i m : ℕ) (l : List ℕ) (h : i < 8) where
     unfolding breaks mentioned
     turn-good v e =
         let sound : breaks (take stride l) ≡ false = rw (take-take 24 stride l wide, e) in
-        let same : mentioned (take stride l) ≡ isMention v = ap mentions (getD-take stride l 0 0 (omega arith) ∙ sym (getD-take 24 l 0 0 (omega arith)) ∙ decode-form (take 24 l) v e) in
+        let same : mentioned (take stride l) ≡ isMention v = ap mentions (getD-take stride l 0 0 (omega arith) ∙ sym (getD-take 24 l 0 0 (omega arith)) ∙ decode-numbers (take 24 l) v e .0) in
         rw (pieces-on stride i l h) (found-on i m (take stride l) (pieces stride (8 - (i + 1)) (drop stride l)) sound
         ∙ ap (λ (b : Bool). foundFrom (i + 1) (m + cond b 1 0) (pieces stride (8 - (i + 1)) (drop stride l))) same)
 

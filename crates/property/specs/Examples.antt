@@ -7,9 +7,8 @@ use lib.ListN.{replicate}
 use lib.IntN.{pos, negsuc}
 use lib.Ieee.{fin}
 use Rattle.property.specs.Layout.{decodeOf, layout}
-use Rattle.property.specs.declared.LengthUnit.the-variants.{M, NM}
+use Rattle.property.specs.declared.LengthUnit.the-variants.{NM}
 use Rattle.property.specs.declared.Value.the-variants.{Unmentioned, Withheld, Code, Number, Length, Point}
-use Rattle.property.specs.declared.Decoded.{Decoded}
 use Rattle.property.specs.declared.Decoded.the-variants.{Good, Broken}
 
 -- form, detail, the first bytes of the content, and zeros to 24 bytes

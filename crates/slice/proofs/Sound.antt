@@ -5,22 +5,21 @@ use mathlib.Core.List.{List, [], _∷_, _++_}
 use mathlib.Core.Bool.{Bool, true, false, cond, not, _&&_}
 use mathlib.Core.Logic.{_⊎_, inl, inr}
 use native.Mathlib.Omega.{arith}
-use lib.ListN.{length, take, drop, length-append}
+use lib.ListN.{length, take, drop, length-append, length-drop}
 use lib.Seq.{take-at, drop-at}
 use lib.Dec.{eqb, ltb}
 use borrow.Author.Tests.{not-false, eqb-true, eq-eqb, ltb-true, lt-ltb}
 use Rattle.laws.specs.Lists.{any}
-use Rattle.laws.specs.Refusals.{Test, test, refuse}
+use Rattle.laws.specs.Refusals.{test}
 use Rattle.laws.proofs.Tests.{tests, iff, and-both}
 use Rattle.laws.proofs.Refusals.{Passed, FirstFails, answer-given, number-given, given-passed, given-number}
-use Rattle.octets.specs.Bytes.{filled, sameBytes}
+use Rattle.octets.specs.Bytes.{filled}
 use Rattle.octets.proofs.Runs.{same-bytes, bytes-same}
 use Rattle.property.specs.Eight.{breaks}
 use Rattle.slice.specs.Record.{ofSide, recordSize, sliceSize, kindOf, flagsOf, cancelledOf, areaOf, viewOf}
 use Rattle.slice.specs.Rules.{timesRight, contentRight}
 use Rattle.slice.specs.Check.{numberOf, refused, reservedClear, emptied, countedTests, recordTests, sliceTests, checkRecord, checkSlice}
-use Rattle.slice.specs.declared.check.Checked.{Checked}
-use Rattle.slice.specs.declared.check.Checked.the-variants.{Sound, Refused}
+use Rattle.slice.specs.declared.check.Checked.the-variants.{Sound}
 use Rattle.slice.proofs.Stages.{record-is, slice-is}
 
 -- ---- the answers of the check are told apart by their numbers
@@ -109,3 +108,21 @@ delivered stride feature side r h =
     rw (length-append feature r, h) (iff (eqb (16 + length r) (sliceSize stride)) (eqb (length r) (recordSize stride)) (λ e. omega tests) (λ e. omega tests)) in
     slice-is stride feature side (feature ++ r)
     ∙ rw (size, take-at feature r 16 h, drop-at feature r 16 h, bytes-same feature feature refl) (sym (record-is stride side r))
+
+-- a sound slice has its size, is of the feature, and its record is sound
+pub record SoundSlice (stride : ℕ) (feature : List ℕ) (side : ℕ) (s : List ℕ) : Type 0 where
+  pub size : length s ≡ sliceSize stride
+  pub named : take 16 s ≡ feature
+  pub sound : checkRecord stride side (drop 16 s) ≡ Sound
+
+pub sound-slice : (stride : ℕ) (feature : List ℕ) (side : ℕ) (s : List ℕ) → checkSlice stride feature side s ≡ Sound → SoundSlice stride feature side s
+unfolding checkSlice sliceTests checkRecord
+sound-slice stride feature side s e =
+    let p = given-passed refused Sound refused-apart (sliceTests stride feature side s) e in
+    let size : length s ≡ sliceSize stride = eqb-true _ _ (not-false _ (p .0)) in
+    let rest : length (drop 16 s) ≡ recordSize stride = length-drop 16 s ∙ omega arith in
+    record {
+      size = size;
+      named = same-bytes _ _ (not-false _ (p .1 .0));
+      sound = answer-given refused Sound (test 9 (not (eqb (length (drop 16 s)) (recordSize stride))) ∷ recordTests stride side (drop 16 s)) (ap not (eq-eqb _ _ rest), p .1 .1);
+    }

@@ -1,11 +1,11 @@
 -- The check as the code makes it, test after test. Assumes nothing.
 use Prim.Native.Nat.{ℕ}
-use mathlib.Core.Path.{_≡_, refl, sym, _∙_, ap}
+use mathlib.Core.Path.{_≡_, refl, ap}
 use mathlib.Core.List.{List, []}
 use mathlib.Core.Bool.{Bool, true, false, cond, not, _&&_}
 use lib.ListN.{length, take, drop}
 use lib.Dec.{eqb}
-use Rattle.laws.specs.Refusals.{Test, test, refuse}
+use Rattle.laws.specs.Refusals.{Test, refuse}
 use Rattle.octets.specs.Bytes.{sameBytes}
 use Rattle.slice.specs.Record.{ofSide, recordSize, sliceSize, kindOf, cancelledOf}
 use Rattle.slice.specs.Check.{refused, reservedClear, emptied, countedTests, recordTests, sliceTests, checkRecord, checkSlice}

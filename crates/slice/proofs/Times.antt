@@ -1,8 +1,8 @@
 -- What right times say, kind by kind, as facts about numbers. Assumes nothing.
 use Prim.Native.Nat.{ℕ, _≤_, _<_}
-use mathlib.Core.Path.{_≡_, refl}
+use mathlib.Core.Path.{_≡_}
 use mathlib.Core.List.{List}
-use mathlib.Core.Bool.{Bool, true, false, _&&_, _||_}
+use mathlib.Core.Bool.{Bool, true, _||_}
 use mathlib.Core.Logic.{_⊎_, inl, inr}
 use native.Mathlib.Omega.{arith}
 use borrow.Author.Tests.{not-true}
@@ -11,9 +11,9 @@ use Rattle.octets.specs.Bytes.{byteOf, beOf}
 use Rattle.octets.proofs.Readers.{be-below}
 use Rattle.numbers.proofs.Facts.{none-true, none-false, before-true, at-most-true, same-true}
 use Rattle.numbers.specs.Numbers.{noInstant, isNone, given, before, atMost, sameInstant}
-use Rattle.slice.specs.Record.{baseline, permdelta, tempdelta}
-use Rattle.slice.specs.Rules.{endRight, baselineTimes, permdeltaTimes, tempdeltaTimes, timesOf}
 use Rattle.numbers.specs.declared.Instant.{Instant}
+use Rattle.slice.specs.Record.{baseline, permdelta, tempdelta}
+use Rattle.slice.specs.Rules.{baselineTimes, permdeltaTimes, tempdeltaTimes, timesOf}
 use Rattle.slice.specs.declared.record.Period.{Period}
 use Rattle.slice.specs.declared.record.Life.{Life}
 

@@ -9,10 +9,9 @@ use Rattle.laws.specs.Lists.{all, any, count}
 use Rattle.laws.specs.Refusals.{refuse}
 use Rattle.laws.proofs.Lists.{length-pieces, all-count, any-count, all-map, any-map}
 use Rattle.property.specs.Eight.{propertiesOf, breaks, mentioned}
-use Rattle.slice.specs.Record.{kindOf, periodOf, lifeOf, areaOf, Property, unmentioned, says, isMentioned, propertyOf, viewOf}
+use Rattle.slice.specs.Record.{kindOf, periodOf, lifeOf, areaOf, unmentioned, says, isMentioned, propertyOf, viewOf}
 use Rattle.slice.specs.Rules.{timesOf, timesRight, contentOf, contentRight}
 use Rattle.slice.specs.Check.{refused, countedTests}
-use Rattle.slice.specs.declared.check.Checked.{Checked}
 use Rattle.slice.specs.declared.check.Checked.the-variants.{Sound}
 
 -- a property of the view is mentioned where its bytes are

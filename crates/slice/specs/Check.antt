@@ -7,8 +7,8 @@ use lib.Dec.{eqb, ltb}
 use Rattle.laws.specs.Lists.{any}
 use Rattle.laws.specs.Refusals.{Test, test, refuse}
 use Rattle.octets.specs.Bytes.{filled, sameBytes}
-use Rattle.property.specs.Eight.{breaks, eight}
 use Rattle.numbers.specs.Numbers.{numbers}
+use Rattle.property.specs.Eight.{breaks, eight}
 use Rattle.slice.specs.Record.{ofSide, recordSize, sliceSize, kindOf, flagsOf, cancelledOf, areaOf, viewOf}
 use Rattle.slice.specs.Rules.{baselineTimes, permdeltaTimes, tempdeltaTimes, timesOf, timesRight, contentOf, contentRight}
 use Rattle.slice.specs.declared.check.Checked.{Checked}

@@ -3,12 +3,12 @@ use Prim.Native.Nat.{ℕ, _+_, _*_, _%_}
 use mathlib.Core.List.{List, map}
 use mathlib.Core.Bool.{Bool, true, false, cond, _&&_, _||_}
 use lib.ListN.{drop}
-use lib.Dec.{eqb, ltb}
+use lib.Dec.{eqb}
 use Rattle.laws.specs.Orders.{lexLess}
 use Rattle.octets.specs.Bytes.{byteOf, beOf}
-use Rattle.property.specs.Eight.{propertiesOf, mentioned}
 use Rattle.numbers.specs.declared.SequenceNumber.{SequenceNumber}
 use Rattle.numbers.specs.declared.CorrectionNumber.{CorrectionNumber}
+use Rattle.property.specs.Eight.{propertiesOf, mentioned}
 use Rattle.slice.specs.declared.record.Key.{Key}
 use Rattle.slice.specs.declared.record.Period.{Period}
 use Rattle.slice.specs.declared.record.Life.{Life}

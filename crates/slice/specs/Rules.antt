@@ -1,11 +1,11 @@
 -- Times (15) and content (16), as document 01 gives them, on the fields of a slice. Assumes nothing.
 use Prim.Native.Nat.{ℕ}
-use mathlib.Core.Bool.{Bool, cond, not, _&&_, _||_}
+use mathlib.Core.Bool.{Bool, cond, _&&_, _||_}
 use lib.Dec.{eqb}
 use Rattle.laws.specs.Lists.{all, any}
+use Rattle.numbers.specs.Numbers.{isNone, given, before, atMost, sameInstant}
 use Rattle.slice.specs.declared.record.Period.{Period}
 use Rattle.slice.specs.declared.record.Life.{Life}
-use Rattle.numbers.specs.Numbers.{isNone, given, before, atMost, sameInstant}
 use Rattle.slice.specs.Record.{baseline, permdelta, Slice, isMentioned}
 
 -- end none or after begin
