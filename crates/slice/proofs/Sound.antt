@@ -126,3 +126,10 @@ sound-slice stride feature side s e =
       named = same-bytes _ _ (not-false _ (p .1 .0));
       sound = answer-given refused Sound (test 9 (not (eqb (length (drop 16 s)) (recordSize stride))) ∷ recordTests stride side (drop 16 s)) (ap not (eq-eqb _ _ rest), p .1 .1);
     }
+
+pub slice-sound : (stride : ℕ) (feature : List ℕ) (side : ℕ) (s : List ℕ) → SoundSlice stride feature side s → checkSlice stride feature side s ≡ Sound
+slice-sound stride feature side s h =
+    let size = h .size in
+    let rest : length (drop 16 s) ≡ recordSize stride = length-drop 16 s ∙ omega arith in
+    let alone = sym (record-is stride side (drop 16 s)) ∙ h .sound in
+    slice-is stride feature side s ∙ rw (eq-eqb _ _ size, bytes-same _ _ (h .named)) (rw (eq-eqb _ _ rest) at alone)

@@ -3,7 +3,7 @@ use Prim.Native.Nat.{ℕ, zero, suc, _/_, _%_}
 use mathlib.Core.Path.{_≡_, refl}
 use mathlib.Core.List.{List, [], _∷_, _++_, map}
 use lib.ListN.{replicate}
-use Rattle.slice.specs.Record.{baseline, permdelta, tempdelta, permanent, temporary}
+use Rattle.slice.specs.Record.{baseline, tempdelta, permanent, temporary}
 use Rattle.slice.specs.Check.{numberOf, checkSlice, checking}
 
 abbrev four : ℕ → List ℕ
@@ -44,20 +44,13 @@ answer c = numberOf (checkSlice 24 feature (c .side) (c .bytes))
 
 abbrev cases : List Case
 cases =
-    case permanent (slice′ baseline 0 (four 100) no-time (four 100) no-time (times′ 8 nil))
-    ∷ case permanent (slice′ baseline 0 (four 4294967294) no-time no-time no-time (times′ 8 nil))
-    ∷ case temporary (slice′ baseline 0 (four 100) no-time no-time no-time (times′ 8 nil))
-    ∷ case permanent (slice′ baseline 0 no-time no-time no-time no-time (times′ 8 nil))
-    ∷ case permanent (slice′ baseline 0 (four 100) (four 100) no-time no-time (times′ 8 nil))
-    ∷ case permanent (slice′ baseline 0 (four 100) no-time no-time no-time (times′ 7 nil ++ blank))
-    ∷ case permanent (slice′ permdelta 0 (four 0) no-time (four 0) no-time (times′ 8 blank))
-    ∷ case temporary (slice′ tempdelta 0 (four 100) (four 200) (four 100) no-time (times′ 8 nil))
+    case permanent (slice′ baseline 0 (four 4294967294) no-time no-time no-time (times′ 8 nil))
     ∷ case temporary (slice′ tempdelta 1 no-time no-time no-time no-time (times′ 8 blank))
     ∷ case temporary (slice′ tempdelta 1 no-time no-time no-time no-time (times′ 7 blank ++ nil))
     ∷ case temporary (slice′ tempdelta 0 no-time no-time no-time no-time (times′ 7 blank ++ replicate 24 9))
-    ∷ case temporary (slice′ tempdelta 2 no-time no-time no-time no-time (times′ 8 blank))
     ∷ []
 
-pub edges : map answer cases ≡ 0 ∷ 0 ∷ 11 ∷ 15 ∷ 15 ∷ 16 ∷ 0 ∷ 15 ∷ 0 ∷ 13 ∷ 14 ∷ 12 ∷ []
+-- a begin at the last second; a cancelled slice; one that still says something; a broken property before times that are wrong
+pub edges : map answer cases ≡ 0 ∷ 0 ∷ 13 ∷ 14 ∷ []
 unfolding checking
 edges = refl
