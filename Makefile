@@ -8,6 +8,7 @@ test:
 	@.ci/run
 
 sample:
+	@echo 'proving and building: a minute and a half' >&2
 	@mkdir -p target && { rt check vectors >target/sample.log 2>&1 || { cat target/sample.log; exit 1; }; }
 	@samples/ask samples/slices
 

@@ -1,11 +1,10 @@
 // What a property of a record says: one value of ten cases, read from its bytes, and the check of a
 // record's eight properties. Each function answers for every slice, and none asks anything of its caller.
 ghost use mathlib.Core.Path.{_≡_};
-ghost use Rattle.property.specs.Value.{isMention};
-ghost use mathlib.Core.Bool.{_&&_};
 ghost use mathlib.Core.Bool.{cond};
 ghost use Prim.Native.Nat.{_≤_};
 ghost use lib.ListN.{length, drop};
+ghost use Rattle.property.specs.Value.{isMention};
 ghost use Rattle.property.specs.Layout.{unused, signed, only, withDetail, nils, inUnits, unmentionedOf, nilOf, codeOf, numberOf, lengthOf, pointOf, formReading, decodeOf};
 ghost use Rattle.property.specs.Eight.{surveyOf};
 

@@ -6,6 +6,7 @@ use lib.ListN.{drop}
 use lib.Dec.{eqb}
 use Rattle.laws.specs.Orders.{lexLess}
 use Rattle.octets.specs.Bytes.{byteOf, beOf}
+use Rattle.numbers.specs.Numbers.{sameSequence}
 use Rattle.numbers.specs.declared.SequenceNumber.{SequenceNumber}
 use Rattle.numbers.specs.declared.CorrectionNumber.{CorrectionNumber}
 use Rattle.property.specs.Eight.{propertiesOf, mentioned}
@@ -73,11 +74,11 @@ areaOf stride r = propertiesOf stride (drop 32 r)
 abbrev pub keyOf : List ℕ → Key
 keyOf r = record { kind = kindOf r; sequence = sequenceOf r }
 
-abbrev pub keyLess : Key → Key → Bool
+unfoldable pub keyLess : Key → Key → Bool
 keyLess a b = lexLess (a .kind) (a .sequence .0) (b .kind) (b .sequence .0)
 
-abbrev pub sameKey : Key → Key → Bool
-sameKey a b = eqb (a .kind) (b .kind) && eqb (a .sequence .0) (b .sequence .0)
+unfoldable pub sameKey : Key → Key → Bool
+sameKey a b = eqb (a .kind) (b .kind) && sameSequence (a .sequence) (b .sequence)
 
 -- ---- the slice that a record says
 -- a property is not mentioned, or says its bytes

@@ -1,11 +1,11 @@
 -- `slice::record::Key::is` meets its contract. Assumes nothing.
 use borrow.Author.Needs.{needs}
-use Rattle.numbers.specs.Numbers.{sameSequence}
+use Rattle.slice.specs.Record.{sameKey}
 use Rattle.slice.proofs.record.Key.is.Statement.{statement}
 use Rattle.slice.proofs.record.Key.is.Tie as tie
 
 returns : tie.Need-returns
-unfolding sameSequence
+unfolding sameKey
 returns c =
     rw (c .is .ensures)
 

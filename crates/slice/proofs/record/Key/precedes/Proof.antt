@@ -2,11 +2,12 @@
 use borrow.Author.Needs.{needs}
 use Rattle.laws.specs.Orders.{lexLess}
 use Rattle.numbers.specs.Numbers.{lowerSequence}
+use Rattle.slice.specs.Record.{keyLess}
 use Rattle.slice.proofs.record.Key.precedes.Statement.{statement}
 use Rattle.slice.proofs.record.Key.precedes.Tie as tie
 
 returns : tie.Need-returns
-unfolding lexLess lowerSequence
+unfolding keyLess lexLess lowerSequence
 returns c =
     rw (c .precedes .ensures)
 
