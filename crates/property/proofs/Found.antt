@@ -10,7 +10,7 @@ use lib.Seq.{take-take, getD-take}
 use Rattle.laws.specs.Lists.{pieces, any, count, first}
 use Rattle.property.specs.Value.{mentions, isMention}
 use Rattle.property.specs.Layout.{decodeOf}
-use Rattle.property.specs.Eight.{propertiesOf, isBroken, breaks, mentioned, surveyOf}
+use Rattle.property.specs.Eight.{propertiesOf, valueOf, isBroken, breaks, mentioned, surveyOf}
 use Rattle.property.specs.declared.Value.{Value}
 use Rattle.property.specs.declared.Decoded.the-variants.{Good, Broken}
 use Rattle.property.specs.declared.Survey.{Survey}
@@ -42,6 +42,11 @@ found-end i m = rw add-zero
 pub pieces-on : (stride i : ℕ) (l : List ℕ) → i < 8 → pieces stride (8 - i) l ≡ take stride l ∷ pieces stride (8 - (i + 1)) (drop stride l)
 pieces-on stride i l h = let e : 8 - i ≡ suc (8 - (i + 1)) = omega arith in rw e
 
+-- a property is mentioned where its value is a mention
+pub mentioned-is : (p : List ℕ) (v : Value) → valueOf p ≡ Good v → mentioned p ≡ isMention v
+unfolding mentioned
+mentioned-is p v e = ap mentions (sym (getD-take 24 p 0 0 (omega arith)) ∙ decode-numbers (take 24 p) v e .0)
+
 -- fewer than 24 bytes break the layout
 pub breaks-less : (p : List ℕ) → length p < 24 → breaks p ≡ true
 unfolding breaks
@@ -65,12 +70,11 @@ module _ (stride i m : ℕ) (l : List ℕ) (h : i < 8) where
     -- it has a value
     pub turn-good : (v : Value) → decodeOf (take 24 l) ≡ Good v
         → foundFrom i m (pieces stride (8 - i) l) ≡ foundFrom (i + 1) (m + cond (isMention v) 1 0) (pieces stride (8 - (i + 1)) (drop stride l))
-    unfolding breaks mentioned
+    unfolding breaks
     turn-good v e =
-        let sound : breaks (take stride l) ≡ false = rw (take-take 24 stride l wide, e) in
-        let same : mentioned (take stride l) ≡ isMention v = ap mentions (getD-take stride l 0 0 (omega arith) ∙ sym (getD-take 24 l 0 0 (omega arith)) ∙ decode-numbers (take 24 l) v e .0) in
-        rw (pieces-on stride i l h) (found-on i m (take stride l) (pieces stride (8 - (i + 1)) (drop stride l)) sound
-        ∙ ap (λ (b : Bool). foundFrom (i + 1) (m + cond b 1 0) (pieces stride (8 - (i + 1)) (drop stride l))) same)
+        let value : valueOf (take stride l) ≡ Good v = ap decodeOf (take-take 24 stride l wide) ∙ e in
+        rw (pieces-on stride i l h) (found-on i m (take stride l) (pieces stride (8 - (i + 1)) (drop stride l)) (ap isBroken value)
+        ∙ ap (λ (b : Bool). foundFrom (i + 1) (m + cond b 1 0) (pieces stride (8 - (i + 1)) (drop stride l))) (mentioned-is (take stride l) v value))
 
 -- ---- what an answer of the check tells
 bad : (b : Bool) (i m j : ℕ) → cond b (FirstBad i) (Mentions m) ≡ FirstBad j → b ≡ true
