@@ -1,13 +1,13 @@
 -- Laws of orders. Assumes nothing.
 use Prim.Native.Nat.{ℕ, _<_}
 use mathlib.Core.Path.{_≡_, sym}
-use mathlib.Core.Bool.{true, false, _&&_}
+use mathlib.Core.Bool.{true, false, _&&_, or-true}
 use mathlib.Core.Logic.{_⊎_, inl, inr}
 use native.Mathlib.Omega.{arith}
 use lib.Dec.{ltb, eqb}
 use borrow.Author.Tests.{ltb-true, eqb-true, lt-ltb, eq-eqb}
 use Rattle.laws.specs.Orders.{lexLess}
-use Rattle.laws.proofs.Tests.{and-both, or-true, or-either}
+use Rattle.laws.proofs.Tests.{and-both, or-either}
 
 -- what it is to come before
 abbrev Lex : ℕ → ℕ → ℕ → ℕ → Type 0

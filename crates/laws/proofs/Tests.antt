@@ -32,10 +32,6 @@ and-both true b h = (refl, h)
 and-both false b h = (h, cc)
 
 -- a test of either
-pub or-true : (b : Bool) → (b || true) ≡ true
-or-true true = refl
-or-true false = refl
-
 -- holds where one of the two does
 pub or-either : (p q : Bool) → (p || q) ≡ true → (p ≡ true) ⊎ (q ≡ true)
 or-either true q h = inl refl

@@ -16,7 +16,7 @@ use Rattle.laws.proofs.Refusals.{Passed, FirstFails, answer-given, number-given
 use Rattle.octets.specs.Bytes.{filled}
 use Rattle.octets.proofs.Runs.{same-bytes, bytes-same}
 use Rattle.property.specs.Eight.{breaks}
-use Rattle.slice.specs.Record.{ofSide, recordSize, sliceSize, kindOf, flagsOf, cancelledOf, areaOf, viewOf}
+use Rattle.slice.specs.Record.{ofSide, recordSize, sliceSize, kindOf, flagsOf, cancelledOf, partsOf, viewOf}
 use Rattle.slice.specs.Rules.{timesRight, contentRight}
 use Rattle.slice.specs.Check.{numberOf, refused, reservedClear, emptied, countedTests, recordTests, sliceTests, checkRecord, checkSlice}
 use Rattle.slice.specs.declared.check.Checked.the-variants.{Sound}
@@ -51,7 +51,7 @@ module _ (stride : ℕ) (r : List ℕ) where
   -- not cancelled: it counts
   pub record Counted : Type 0 where
     pub uncancelled : cancelledOf r ≡ false
-    pub properties : any breaks (areaOf stride r) ≡ false
+    pub properties : any breaks (partsOf stride r) ≡ false
     pub times : timesRight (viewOf stride r) ≡ true
     pub content : contentRight (viewOf stride r) ≡ true
 

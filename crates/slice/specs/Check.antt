@@ -9,7 +9,7 @@ use Rattle.laws.specs.Refusals.{Test, test, refuse}
 use Rattle.octets.specs.Bytes.{filled, sameBytes}
 use Rattle.numbers.specs.Numbers.{numbers}
 use Rattle.property.specs.Eight.{breaks, eight}
-use Rattle.slice.specs.Record.{ofSide, recordSize, sliceSize, kindOf, flagsOf, cancelledOf, areaOf, viewOf}
+use Rattle.slice.specs.Record.{ofSide, recordSize, sliceSize, kindOf, flagsOf, cancelledOf, partsOf, viewOf}
 use Rattle.slice.specs.Rules.{baselineTimes, permdeltaTimes, tempdeltaTimes, timesOf, timesRight, contentOf, contentRight}
 use Rattle.slice.specs.declared.check.Checked.{Checked}
 use Rattle.slice.specs.declared.check.Checked.the-variants.{Sound, Refused}
@@ -33,7 +33,7 @@ emptied stride r = filled 255 16 r 8 && filled 0 (8 * stride) r 32
 -- 14 to 16, which a cancelled record skips
 unfoldable pub countedTests : ℕ → List ℕ → List Test
 countedTests stride r =
-    test 14 (any breaks (areaOf stride r))
+    test 14 (any breaks (partsOf stride r))
     ∷ test 15 (not (timesRight (viewOf stride r)))
     ∷ test 16 (not (contentRight (viewOf stride r)))
     ∷ []

@@ -67,8 +67,8 @@ abbrev pub lifeOf : List ℕ → Life
 lifeOf r = record { begin = record { 0 = beOf 4 r 16 }; end = record { 0 = beOf 4 r 20 } }
 
 -- the properties' bytes, one list each
-abbrev pub areaOf : ℕ → List ℕ → List (List ℕ)
-areaOf stride r = propertiesOf stride (drop 32 r)
+abbrev pub partsOf : ℕ → List ℕ → List (List ℕ)
+partsOf stride r = propertiesOf stride (drop 32 r)
 
 -- ---- the key: kind, then sequence number
 abbrev pub keyOf : List ℕ → Key
@@ -110,5 +110,5 @@ viewOf stride r = record {
   sequence = sequenceOf r;
   period = periodOf r;
   life = lifeOf r;
-  properties = map propertyOf (areaOf stride r);
+  properties = map propertyOf (partsOf stride r);
 }
