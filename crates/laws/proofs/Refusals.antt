@@ -1,7 +1,7 @@
 -- Refusals: an answer is given where no test fails, and a number where its test is the first to fail. Assumes nothing.
 use Prim.Native.Nat.{ℕ}
-use mathlib.Core.Path.{_≡_, refl, sym}
-use mathlib.Core.List.{List, [], _∷_}
+use mathlib.Core.Path.{_≡_, refl, sym, ap}
+use mathlib.Core.List.{List, [], _∷_, _++_}
 use mathlib.Core.Bool.{Bool, true, false, cond}
 use mathlib.Core.Logic.{_⊎_, inl, inr}
 use Rattle.laws.specs.Refusals.{Test, refuse}
@@ -15,6 +15,12 @@ Passed (x ∷ xs) = (x .fails ≡ false) × Passed xs
 abbrev pub FirstFails : ℕ → List Test → Type 0
 FirstFails n [] = ⊥
 FirstFails n (x ∷ xs) = ((x .fails ≡ true) × (x .number ≡ n)) ⊎ ((x .fails ≡ false) × FirstFails n xs)
+
+-- tests of two lists, one behind the other
+pub refuse-join : {A : Type 0} (refused : ℕ → A) (xs ys : List Test) (answer : A)
+    → refuse refused (xs ++ ys) answer ≡ refuse refused xs (refuse refused ys answer)
+refuse-join refused [] ys answer = refl
+refuse-join refused (x ∷ xs) ys answer = ap (cond (x .fails) (refused (x .number))) (refuse-join refused xs ys answer)
 
 module _ {A : Type 0} (refused : ℕ → A) (answer : A) where
   pub answer-given : (xs : List Test) → Passed xs → refuse refused xs answer ≡ answer

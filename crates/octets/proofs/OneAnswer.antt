@@ -1,7 +1,7 @@
 -- The promise of each public function asks nothing and leaves one answer. Assumes nothing.
 use mathlib.Core.Path.{refl}
 use Rattle.laws.specs.OneAnswer.{OneAnswer}
-use Rattle.laws.proofs.OneAnswer.{same}
+use Rattle.laws.proofs.OneAnswer.{same, both}
 use Rattle.octets.proofs.byte.Kinds as byte-k
 use Rattle.octets.proofs.byte.Reads as byte
 use Rattle.octets.proofs.be16.Kinds as be16-k
@@ -10,10 +10,10 @@ use Rattle.octets.proofs.be32.Kinds as be32-k
 use Rattle.octets.proofs.be32.Reads as be32
 use Rattle.octets.proofs.be64.Kinds as be64-k
 use Rattle.octets.proofs.be64.Reads as be64
-use Rattle.octets.proofs.blank2.Kinds as blank2-k
-use Rattle.octets.proofs.blank2.Reads as blank2
-use Rattle.octets.proofs.blank4.Kinds as blank4-k
-use Rattle.octets.proofs.blank4.Reads as blank4
+use Rattle.octets.proofs.blank_past_two.Kinds as blank-past-two-k
+use Rattle.octets.proofs.blank_past_two.Reads as blank-past-two
+use Rattle.octets.proofs.blank_past_four.Kinds as blank-past-four-k
+use Rattle.octets.proofs.blank_past_four.Reads as blank-past-four
 use Rattle.octets.proofs.blank8.Kinds as blank8-k
 use Rattle.octets.proofs.blank8.Reads as blank8
 use Rattle.octets.proofs.full8.Kinds as full8-k
@@ -22,6 +22,12 @@ use Rattle.octets.proofs.blank.Kinds as blank-k
 use Rattle.octets.proofs.blank.Reads as blank
 use Rattle.octets.proofs.same.Kinds as same-k
 use Rattle.octets.proofs.same.Reads as same
+use Rattle.octets.proofs.writers.put.Kinds as put-k
+use Rattle.octets.proofs.writers.put.Reads as put
+use Rattle.octets.proofs.writers.put16.Kinds as put16-k
+use Rattle.octets.proofs.writers.put16.Reads as put16
+use Rattle.octets.proofs.writers.open_gap.Kinds as open-gap-k
+use Rattle.octets.proofs.writers.open_gap.Reads as open-gap
 
 pub byte-one : OneAnswer byte-k.ps byte-k.r byte.Asked byte.Learnt
 byte-one κs a = (tt, λ z z' ws ws' p q. (same p q, refl))
@@ -35,11 +41,11 @@ be32-one κs a = (tt, λ z z' ws ws' p q. (same p q, refl))
 pub be64-one : OneAnswer be64-k.ps be64-k.r be64.Asked be64.Learnt
 be64-one κs a = (tt, λ z z' ws ws' p q. (same p q, refl))
 
-pub blank2-one : OneAnswer blank2-k.ps blank2-k.r blank2.Asked blank2.Learnt
-blank2-one κs a = (tt, λ z z' ws ws' p q. (same p q, refl))
+pub blank-past-two-one : OneAnswer blank-past-two-k.ps blank-past-two-k.r blank-past-two.Asked blank-past-two.Learnt
+blank-past-two-one κs a = (tt, λ z z' ws ws' p q. (same p q, refl))
 
-pub blank4-one : OneAnswer blank4-k.ps blank4-k.r blank4.Asked blank4.Learnt
-blank4-one κs a = (tt, λ z z' ws ws' p q. (same p q, refl))
+pub blank-past-four-one : OneAnswer blank-past-four-k.ps blank-past-four-k.r blank-past-four.Asked blank-past-four.Learnt
+blank-past-four-one κs a = (tt, λ z z' ws ws' p q. (same p q, refl))
 
 pub blank8-one : OneAnswer blank8-k.ps blank8-k.r blank8.Asked blank8.Learnt
 blank8-one κs a = (tt, λ z z' ws ws' p q. (same p q, refl))
@@ -52,3 +58,12 @@ blank-one κs a = (tt, λ z z' ws ws' p q. (same p q, refl))
 
 pub same-one : OneAnswer same-k.ps same-k.r same.Asked same.Learnt
 same-one κs a = (tt, λ z z' ws ws' p q. (same p q, refl))
+
+pub put-one : OneAnswer put-k.ps put-k.r put.Asked put.Learnt
+put-one κs a = (tt, λ z z' ws ws' p q. (refl, both (same p q) refl))
+
+pub put16-one : OneAnswer put16-k.ps put16-k.r put16.Asked put16.Learnt
+put16-one κs a = (tt, λ z z' ws ws' p q. (refl, both (same p q) refl))
+
+pub open-gap-one : OneAnswer open-gap-k.ps open-gap-k.r open-gap.Asked open-gap.Learnt
+open-gap-one κs a = (tt, λ z z' ws ws' p q. (refl, both (same p q) refl))

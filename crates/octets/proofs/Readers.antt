@@ -1,5 +1,5 @@
 -- Laws of the readers, over the width n. Assumes nothing.
-use Prim.Native.Nat.{ℕ, zero, suc, _+_, _^_, _≤_, _<_}
+use Prim.Native.Nat.{ℕ, zero, suc, _+_, _-_, _^_, _≤_, _<_}
 use mathlib.Core.Path.{_≡_}
 use mathlib.Core.List.{List}
 use native.Mathlib.Nat.{pow-suc}
@@ -7,7 +7,7 @@ use native.Mathlib.Omega.{arith}
 use lib.ListN.{length}
 use borrow.Author.Tests.{le-leb, lt-leb}
 use Rattle.laws.proofs.Tests.{pick-ind}
-use Rattle.octets.specs.Bytes.{byteOf, digits, there, beOf}
+use Rattle.octets.specs.Bytes.{byteOf, digits, there, beOf, leOf}
 
 module _ (n : ℕ) (s : List ℕ) (at : ℕ) where
   -- not all the bytes are there
@@ -19,6 +19,15 @@ module _ (n : ℕ) (s : List ℕ) (at : ℕ) where
   pub be-whole : at + n ≤ length s → beOf n s at ≡ digits (byteOf s) n at
   unfolding beOf
   be-whole h = rw (le-leb _ _ h)
+
+  -- and so for the lowest byte first
+  pub le-short : length s < at + n → 0 ≡ leOf n s at
+  unfolding leOf
+  le-short h = rw (lt-leb _ _ h)
+
+  pub le-whole : at + n ≤ length s → leOf n s at ≡ digits (λ i. byteOf s (at + (n - 1 - i))) n 0
+  unfolding leOf
+  le-whole h = rw (le-leb _ _ h)
 
 -- ---- what a number of n bytes is at most
 below : (byte : ℕ → ℕ) → ((i : ℕ) → byte i < 256) → (n at : ℕ) → digits byte n at < 256 ^ n

@@ -7,11 +7,11 @@ use native.Mathlib.Nat.{add-zero, zero-add}
 use native.Mathlib.Omega.{arith}
 use lib.ListN.{length, drop, length-drop}
 use lib.Seq.{ext-getD, getD-drop}
-use lib.Dec.{leb, eqb}
+use lib.Dec.{leb, ltb, eqb}
 use borrow.Author.Tests.{le-leb, eq-eqb, leb-true, eqb-true, eqb-false}
 use Rattle.laws.proofs.Tests.{tests, iff, and-assoc, and-both, and-true, and-false}
-use Rattle.octets.specs.Bytes.{byteOf, digits, each, there, beOf, filled, sameBytes}
-use Rattle.octets.proofs.Readers.{be-whole}
+use Rattle.octets.specs.Bytes.{byteOf, digits, each, there, beOf, leOf, filled, sameBytes}
+use Rattle.octets.proofs.Readers.{be-whole, le-whole}
 
 -- what the elements of a list of bytes are
 abbrev pub Bytes : List ℕ → Type 0
@@ -65,8 +65,13 @@ pub each-all : (test : ℕ → Bool) (n at : ℕ) → ((i : ℕ) → i < n → t
 each-all test zero at h = refl
 each-all test (suc n) at h = rw (each-all test n at (λ i l. h i (omega arith)), h n (omega arith))
 
+-- two runs whose places are tested alike
+pub each-same : (test test' : ℕ → Bool) (n at : ℕ) → ((i : ℕ) → i < n → test (at + i) ≡ test' (at + i)) → each test n at ≡ each test' n at
+each-same test test' zero at h = refl
+each-same test test' (suc n) at h = rw (each-same test test' n at (λ i l. h i (omega arith)), h n (omega arith))
+
 -- ---- two numbers of n digits are equal where their digits are
-two-digits : (a b x y : ℕ) → x < 256 → y < 256 → eqb (a * 256 + x) (b * 256 + y) ≡ (eqb a b && eqb x y)
+pub two-digits : (a b x y : ℕ) → x < 256 → y < 256 → eqb (a * 256 + x) (b * 256 + y) ≡ (eqb a b && eqb x y)
 two-digits a b x y hx hy = go (eqb a b) (eqb x y) refl refl
   where
     go : (p q : Bool) → eqb a b ≡ p → eqb x y ≡ q → eqb (a * 256 + x) (b * 256 + y) ≡ (p && q)
@@ -88,11 +93,6 @@ module _ (n : ℕ) (s : List ℕ) (at : ℕ) (bytes : Bytes s) (h : at + n ≤ l
   pub word-is : (v : ℕ) → v < 256 → each (λ i. eqb (byteOf s i) v) n at ≡ eqb (beOf n s at) (digits (λ _. v) n at)
   word-is v small = rw (be-whole n s at h) (sym (same-digits (byteOf s) (λ _. v) bytes (λ _. small) n at))
 
-  -- the bytes are those of another list
-  pub word-same : (t : List ℕ) → Bytes t → at + n ≤ length t
-      → each (λ i. eqb (byteOf s i) (byteOf t i)) n at ≡ eqb (beOf n s at) (beOf n t at)
-  word-same t bytes' h' = rw (be-whole n s at h, be-whole n t at h') (sym (same-digits (byteOf s) (byteOf t) bytes bytes' n at))
-
 -- n bytes that were found to be there, and whose number is r
 pub filled-word : (v : ℕ) → v < 256 → (n : ℕ) (s : List ℕ) (at : ℕ) → Bytes s → (all : Bool) → all ≡ there n s at → all ≡ true
     → (r : ℕ) → r ≡ beOf n s at → eqb r (digits (λ _. v) n at) ≡ filled v n s at
@@ -101,10 +101,85 @@ filled-word v small n s at bytes all told held r is =
     let h : there n s at ≡ true = sym told ∙ held in
     rw (is, h) (sym (word-is n s at bytes (leb-true _ _ h) v small))
 
+-- ---- eight bytes told by one number, the lowest byte first
+-- n places from k behind `at` on, the last of them, m behind it, first
+each-mirror : (test : ℕ → Bool) (k n m at : ℕ) → m + 1 ≡ k + n → each (λ i. test (at + (m - i))) n 0 ≡ each test n (at + k)
+each-mirror test k n m at last = iff _ _ there-and back
+  where
+    there-and : each (λ i. test (at + (m - i))) n 0 ≡ true → each test n (at + k) ≡ true
+    there-and h = each-all test n (at + k) (λ i l.
+        let e : at + (m - (0 + (n - 1 - i))) ≡ at + k + i = omega arith in
+        rw e at (each-at (λ i. test (at + (m - i))) n 0 h (n - 1 - i) (omega arith)))
+
+    back : each test n (at + k) ≡ true → each (λ i. test (at + (m - i))) n 0 ≡ true
+    back h = each-all (λ i. test (at + (m - i))) n 0 (λ i l.
+        let e : at + k + (n - 1 - i) ≡ at + (m - (0 + i)) = omega arith in
+        rw e at (each-at test n (at + k) h (n - 1 - i) (omega arith)))
+
+-- what eight digits are below, where the first of them are 0
+last-two : (d x y : ℕ) → x < 256 → y < 256 → ltb ((d * 256 + x) * 256 + y) 65536 ≡ eqb d 0
+last-two d x y hx hy = go (eqb d 0) refl
+  where
+    go : (b : Bool) → eqb d 0 ≡ b → ltb ((d * 256 + x) * 256 + y) 65536 ≡ b
+    go true e = omega (tests, eqb-true d 0 e)
+    go false e = omega (tests, eqb-false d 0 e)
+
+last-four : (d x y z w : ℕ) → x < 256 → y < 256 → z < 256 → w < 256 → ltb ((((d * 256 + x) * 256 + y) * 256 + z) * 256 + w) 4294967296 ≡ eqb d 0
+last-four d x y z w hx hy hz hw = go (eqb d 0) refl
+  where
+    go : (b : Bool) → eqb d 0 ≡ b → ltb ((((d * 256 + x) * 256 + y) * 256 + z) * 256 + w) 4294967296 ≡ b
+    go true e = omega (tests, eqb-true d 0 e)
+    go false e = omega (tests, eqb-false d 0 e)
+
+module _ (s : List ℕ) (at : ℕ) (bytes : Bytes s) (h : at + 8 ≤ length s) where
+  -- each byte is v
+  pub low-is : (v : ℕ) → v < 256 → each (λ i. eqb (byteOf s i) v) 8 at ≡ eqb (leOf 8 s at) (digits (λ _. v) 8 0)
+  low-is v small =
+      sym (rw (le-whole 8 s at h) (same-digits (λ i. byteOf s (at + (7 - i))) (λ _. v) (λ i. bytes (at + (7 - i))) (λ _. small) 8 0)
+      ∙ each-mirror (λ j. eqb (byteOf s j) v) 0 8 7 at refl ∙ ap (λ (k : ℕ). each (λ i. eqb (byteOf s i) v) 8 k) (add-zero at))
+
+  -- the bytes are those of another list
+  pub low-same : (t : List ℕ) → Bytes t → at + 8 ≤ length t → each (λ i. eqb (byteOf s i) (byteOf t i)) 8 at ≡ eqb (leOf 8 s at) (leOf 8 t at)
+  low-same t bytes' h' =
+      sym (rw (le-whole 8 s at h, le-whole 8 t at h')
+      (same-digits (λ i. byteOf s (at + (7 - i))) (λ i. byteOf t (at + (7 - i))) (λ i. bytes (at + (7 - i))) (λ i. bytes' (at + (7 - i))) 8 0)
+      ∙ each-mirror (λ j. eqb (byteOf s j) (byteOf t j)) 0 8 7 at refl
+      ∙ ap (λ (k : ℕ). each (λ i. eqb (byteOf s i) (byteOf t i)) 8 k) (add-zero at))
+
+  -- the last n of them are 0, from k behind on
+  zeros : (k n : ℕ) → 8 ≡ k + n → eqb (digits (λ i. byteOf s (at + (7 - i))) n 0) (digits (λ _. 0) n 0) ≡ filled 0 n s (at + k)
+  unfolding filled
+  zeros k n e =
+      same-digits (λ i. byteOf s (at + (7 - i))) (λ _. 0) (λ i. bytes (at + (7 - i))) (λ _. omega arith) n 0
+      ∙ each-mirror (λ j. eqb (byteOf s j) 0) k n 7 at e
+      ∙ rw (le-leb (at + k + n) (length s) (omega arith))
+
+  pub past-two : ltb (leOf 8 s at) 65536 ≡ filled 0 6 s (at + 2)
+  past-two = rw (le-whole 8 s at h) (last-two (digits (λ i. byteOf s (at + (7 - i))) 6 0) _ _ (bytes (at + 1)) (bytes (at + 0)) ∙ zeros 2 6 refl)
+
+  pub past-four : ltb (leOf 8 s at) 4294967296 ≡ filled 0 4 s (at + 4)
+  past-four =
+      rw (le-whole 8 s at h) (last-four (digits (λ i. byteOf s (at + (7 - i))) 4 0) _ _ _ _ (bytes (at + 3)) (bytes (at + 2)) (bytes (at + 1)) (bytes (at + 0)) ∙ zeros 4 4 refl)
+
+-- eight bytes that were found to be there, and whose number is r
+pub filled-low : (v : ℕ) → v < 256 → (s : List ℕ) (at : ℕ) → Bytes s → (all : Bool) → all ≡ there 8 s at → all ≡ true
+    → (r : ℕ) → r ≡ leOf 8 s at → eqb r (digits (λ _. v) 8 0) ≡ filled v 8 s at
+unfolding filled
+filled-low v small s at bytes all told held r is =
+    let h : there 8 s at ≡ true = sym told ∙ held in
+    rw (is, h) (sym (low-is s at bytes (leb-true _ _ h) v small))
+
 -- n bytes that were found not to be there
 pub filled-short : (v n : ℕ) (s : List ℕ) (at : ℕ) (all : Bool) → all ≡ there n s at → all ≡ false → false ≡ filled v n s at
 unfolding filled
 filled-short v n s at all told failed = rw (sym told ∙ failed)
+
+-- n bytes behind k others, where not all of these are there
+pub filled-not-there : (k n : ℕ) (s : List ℕ) (at : ℕ) (all : Bool) → all ≡ there (k + n) s at → all ≡ false → false ≡ filled 0 n s (at + k)
+unfolding filled
+filled-not-there k n s at all told failed =
+    let e : at + (k + n) ≡ at + k + n = omega arith in
+    rw (sym (ap (λ (j : ℕ). leb j (length s)) e) ∙ (sym told ∙ failed))
 
 -- all of a list
 pub filled-whole : (v : ℕ) (s : List ℕ) → filled v (length s) s 0 ≡ each (λ i. eqb (byteOf s i) v) (length s) 0

@@ -1,9 +1,14 @@
 // Numbers and runs in lent bytes, the highest byte first. Each function answers for every slice and
 // every place, and none asks anything of its caller.
+mod writers;
+
+pub use writers::open_gap;
+pub use writers::put;
+pub use writers::put16;
 ghost use mathlib.Core.Path.{_≡_};
 ghost use Prim.Native.Nat.{_+_, _*_};
 ghost use lib.ListN.{length};
-ghost use Rattle.octets.specs.Bytes.{byteOf, there, beOf, filled, sameBytes};
+ghost use Rattle.octets.specs.Bytes.{byteOf, there, beOf, leOf, filled, sameBytes};
 
 // The byte at `at`, or 0 past the end.
 pub fn byte(s: &[u8], at: usize) -> u8
@@ -67,6 +72,21 @@ pub fn be64(s: &[u8], at: usize) -> u64
     (high as u64) * 4294967296 + (low as u64)
 }
 
+// The number of eight bytes at `at`, the lowest byte first, or 0 unless all are there.
+fn le64(s: &[u8], at: usize) -> u64
+    ensures { λ r. ⌜ r ≡ leOf 8 (now (s .entry)) at ⌝ }
+{
+    if s.len() < 8 {
+        return 0;
+    }
+    if at > s.len() - 8 {
+        return 0;
+    }
+    let last = four(s[at + 7], s[at + 6], s[at + 5], s[at + 4]);
+    let first = four(s[at + 3], s[at + 2], s[at + 1], s[at]);
+    (last as u64) * 4294967296 + (first as u64)
+}
+
 // Whether the n bytes at `at` are all there.
 fn has(s: &[u8], at: usize, n: usize) -> bool
     ensures { λ r. ⌜ r ≡ there n (now (s .entry)) at ⌝ }
@@ -77,34 +97,34 @@ fn has(s: &[u8], at: usize, n: usize) -> bool
     at <= s.len() - n
 }
 
-// Whether the two bytes at `at` are there and are 0.
-pub fn blank2(s: &[u8], at: usize) -> bool
-    ensures { λ r. ⌜ r ≡ filled 0 2 (now (s .entry)) at ⌝ }
-{
-    if has(s, at, 2) {
-        be16(s, at) == 0
-    } else {
-        false
-    }
-}
-
-// Whether the four bytes at `at` are there and are 0.
-pub fn blank4(s: &[u8], at: usize) -> bool
-    ensures { λ r. ⌜ r ≡ filled 0 4 (now (s .entry)) at ⌝ }
-{
-    if has(s, at, 4) {
-        be32(s, at) == 0
-    } else {
-        false
-    }
-}
-
 // Whether the eight bytes at `at` are there and are 0.
 pub fn blank8(s: &[u8], at: usize) -> bool
     ensures { λ r. ⌜ r ≡ filled 0 8 (now (s .entry)) at ⌝ }
 {
     if has(s, at, 8) {
-        be64(s, at) == 0
+        le64(s, at) == 0
+    } else {
+        false
+    }
+}
+
+// Whether the eight bytes at `at` are there and the last six of them are 0.
+pub fn blank_past_two(s: &[u8], at: usize) -> bool
+    ensures { λ r. ⌜ r ≡ filled 0 6 (now (s .entry)) (at + 2) ⌝ }
+{
+    if has(s, at, 8) {
+        le64(s, at) < 65536
+    } else {
+        false
+    }
+}
+
+// Whether the eight bytes at `at` are there and the last four of them are 0.
+pub fn blank_past_four(s: &[u8], at: usize) -> bool
+    ensures { λ r. ⌜ r ≡ filled 0 4 (now (s .entry)) (at + 4) ⌝ }
+{
+    if has(s, at, 8) {
+        le64(s, at) < 4294967296
     } else {
         false
     }
@@ -115,7 +135,7 @@ pub fn full8(s: &[u8], at: usize) -> bool
     ensures { λ r. ⌜ r ≡ filled 255 8 (now (s .entry)) at ⌝ }
 {
     if has(s, at, 8) {
-        be64(s, at) == 18446744073709551615
+        le64(s, at) == 18446744073709551615
     } else {
         false
     }
@@ -128,7 +148,7 @@ pub fn blank(s: &[u8]) -> bool
     let mut at = 0;
     while at < s.len() {
         if has(s, at, 8) {
-            if be64(s, at) != 0 {
+            if le64(s, at) != 0 {
                 return false;
             }
             at += 8;
@@ -152,7 +172,7 @@ pub fn same(a: &[u8], b: &[u8]) -> bool
     let mut at = 0;
     while at < a.len() {
         if has(a, at, 8) {
-            if be64(a, at) != be64(b, at) {
+            if le64(a, at) != le64(b, at) {
                 return false;
             }
             at += 8;

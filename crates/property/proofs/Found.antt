@@ -2,20 +2,24 @@
 use Prim.Native.Nat.{ℕ, suc, _+_, _-_, _≤_, _<_}
 use mathlib.Core.Path.{_≡_, refl, sym, _∙_, ap}
 use mathlib.Core.List.{List, [], _∷_}
-use mathlib.Core.Bool.{Bool, true, false, cond}
+use mathlib.Core.Bool.{Bool, true, false, cond, _&&_}
 use native.Mathlib.Nat.{zero-add, add-zero}
 use native.Mathlib.Omega.{arith}
 use lib.ListN.{length, take, drop, length-take}
 use lib.Seq.{take-take, getD-take}
 use Rattle.laws.specs.Lists.{pieces, any, count, first}
+use Rattle.laws.proofs.Tests.{and-both}
+use Rattle.octets.specs.Bytes.{byteOf}
 use Rattle.property.specs.Value.{mentions, isMention}
 use Rattle.property.specs.Layout.{decodeOf}
-use Rattle.property.specs.Eight.{propertiesOf, valueOf, isBroken, breaks, mentioned, surveyOf}
+use Rattle.property.specs.Eight.{propertiesOf, valueOf, isBroken, isGood, breaks, mentioned, surveyOf}
 use Rattle.property.specs.declared.Value.{Value}
+use Rattle.property.specs.declared.Value.the-variants.{Unmentioned}
 use Rattle.property.specs.declared.Decoded.the-variants.{Good, Broken}
 use Rattle.property.specs.declared.Survey.{Survey}
 use Rattle.property.specs.declared.Survey.the-variants.{FirstBad, Mentions}
 use Rattle.property.proofs.Forms.{decode-numbers, decode-sized}
+use Rattle.property.proofs.Sound.{is-good}
 
 -- what is found from property i on, m being mentioned before it
 abbrev pub foundFrom : ℕ → ℕ → List (List ℕ) → Survey
@@ -75,6 +79,23 @@ module _ (stride i m : ℕ) (l : List ℕ) (h : i < 8) where
         let value : valueOf (take stride l) ≡ Good v = ap decodeOf (take-take 24 stride l wide) ∙ e in
         rw (pieces-on stride i l h) (found-on i m (take stride l) (pieces stride (8 - (i + 1)) (drop stride l)) (ap isBroken value)
         ∙ ap (λ (b : Bool). foundFrom (i + 1) (m + cond b 1 0) (pieces stride (8 - (i + 1)) (drop stride l))) (mentioned-is (take stride l) v value))
+
+    -- it is a mention
+    pub turn-mentioned : (isGood (decodeOf (take 24 l)) && mentions (byteOf (take 24 l) 0)) ≡ true
+        → foundFrom i m (pieces stride (8 - i) l) ≡ foundFrom (i + 1) (m + 1) (pieces stride (8 - (i + 1)) (drop stride l))
+    unfolding breaks mentioned
+    turn-mentioned e =
+        let q = and-both (isGood (decodeOf (take 24 l))) (mentions (byteOf (take 24 l) 0)) e in
+        let sound-part : breaks (take stride l) ≡ false = ap (λ (p : List ℕ). isBroken (decodeOf p)) (take-take 24 stride l wide) ∙ is-good (decodeOf (take 24 l)) (q .0) in
+        let told : mentioned (take stride l) ≡ true =
+        ap mentions (sym (getD-take 24 (take stride l) 0 0 (omega arith)) ∙ ap (λ (p : List ℕ). byteOf p 0) (take-take 24 stride l wide)) ∙ q .1 in
+        rw (pieces-on stride i l h) (found-on i m (take stride l) (pieces stride (8 - (i + 1)) (drop stride l)) sound-part
+        ∙ ap (λ (b : Bool). foundFrom (i + 1) (m + cond b 1 0) (pieces stride (8 - (i + 1)) (drop stride l))) told)
+
+    -- it is not mentioned
+    pub turn-silent : decodeOf (take 24 l) ≡ Good Unmentioned
+        → foundFrom i m (pieces stride (8 - i) l) ≡ foundFrom (i + 1) m (pieces stride (8 - (i + 1)) (drop stride l))
+    turn-silent e = turn-good Unmentioned e ∙ ap (λ (n : ℕ). foundFrom (i + 1) n (pieces stride (8 - (i + 1)) (drop stride l))) (add-zero m)
 
 -- ---- what an answer of the check tells
 bad : (b : Bool) (i m j : ℕ) → cond b (FirstBad i) (Mentions m) ≡ FirstBad j → b ≡ true

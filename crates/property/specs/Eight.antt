@@ -23,6 +23,10 @@ abbrev pub isBroken : Decoded → Bool
 isBroken (Good v) = false
 isBroken Broken = true
 
+abbrev pub isGood : Decoded → Bool
+isGood (Good v) = true
+isGood Broken = false
+
 -- a property breaks the layout
 unfoldable pub breaks : List ℕ → Bool
 breaks p = isBroken (valueOf p)

@@ -1,12 +1,14 @@
 // What a property of a record says: one value of ten cases, read from its bytes, and the check of a
 // record's eight properties. Each function answers for every slice, and none asks anything of its caller.
 ghost use mathlib.Core.Path.{_≡_};
-ghost use mathlib.Core.Bool.{cond};
+ghost use mathlib.Core.Bool.{_&&_};
 ghost use Prim.Native.Nat.{_≤_};
 ghost use lib.ListN.{length, drop};
-ghost use Rattle.property.specs.Value.{isMention};
+ghost use lib.Dec.{eqb, leb};
+ghost use Rattle.octets.specs.Bytes.{byteOf, filled};
+ghost use Rattle.property.specs.Value.{isMention, mentions};
 ghost use Rattle.property.specs.Layout.{unused, signed, only, withDetail, nils, inUnits, unmentionedOf, nilOf, codeOf, numberOf, lengthOf, pointOf, formReading, decodeOf};
-ghost use Rattle.property.specs.Eight.{surveyOf};
+ghost use Rattle.property.specs.Eight.{isGood, surveyOf};
 
 mod double;
 
@@ -16,8 +18,8 @@ use crate::double::within;
 use octets::be16;
 use octets::be32;
 use octets::be64;
-use octets::blank2;
-use octets::blank4;
+use octets::blank_past_four;
+use octets::blank_past_two;
 use octets::blank8;
 use octets::byte;
 
@@ -75,14 +77,14 @@ fn kept(ok: bool, d: Decoded) -> Decoded
 fn unused_from_12(p: &[u8]) -> bool
     ensures { λ r. ⌜ r ≡ unused 12 23 (now (p .entry)) ⌝ }
 {
-    blank4(p, 12) & blank8(p, 16)
+    blank_past_four(p, 8) & blank8(p, 16)
 }
 
 // Whether bytes 10 to 23 are zero.
 fn unused_from_10(p: &[u8]) -> bool
     ensures { λ r. ⌜ r ≡ unused 10 23 (now (p .entry)) ⌝ }
 {
-    blank2(p, 10) & unused_from_12(p)
+    blank_past_two(p, 8) & blank8(p, 16)
 }
 
 // Whether bytes 8 to 23 are zero.
@@ -215,7 +217,7 @@ pub fn decode(p: &[u8]) -> Decoded
     if p.len() != 24 {
         return Decoded::Broken;
     }
-    kept(blank2(p, 2) & blank4(p, 4), by_form(p))
+    kept(blank_past_two(p, 0), by_form(p))
 }
 
 // Whether a value is a mention: each is but `Unmentioned`.
@@ -236,11 +238,72 @@ pub fn is_mention(v: Value) -> bool
     }
 }
 
-// How many mentions a value is.
-fn tally(v: Value) -> usize
-    ensures { λ r. ⌜ r ≡ cond (isMention v) 1 0 ⌝ }
+// Whether n is one of low to high.
+fn is_among(n: u16, low: u16, high: u16) -> bool
+    ensures { λ r. ⌜ r ≡ (leb low n && leb n high) ⌝ }
 {
-    if is_mention(v) { 1 } else { 0 }
+    (low <= n) & (n <= high)
+}
+
+// Whether form and detail are a nil's, and its layout is kept.
+fn is_nil(p: &[u8]) -> bool
+    requires { ⌜ length (now p) ≡ 24 ⌝ }
+    ensures { λ r. ⌜ r ≡ (eqb (byteOf (now (p .entry)) 0) 1 && isGood (nilOf (now (p .entry)))) ⌝ }
+{
+    is_among(be16(p, 0), 257, 261) & unused_from_8(p)
+}
+
+// Whether form and detail are a code's, and its layout is kept.
+fn is_code(p: &[u8]) -> bool
+    requires { ⌜ length (now p) ≡ 24 ⌝ }
+    ensures { λ r. ⌜ r ≡ (eqb (byteOf (now (p .entry)) 0) 2 && isGood (codeOf (now (p .entry)))) ⌝ }
+{
+    (be16(p, 0) == 512) & unused_from_10(p)
+}
+
+// Whether form and detail are a whole number's, and its layout is kept.
+fn is_number(p: &[u8]) -> bool
+    requires { ⌜ length (now p) ≡ 24 ⌝ }
+    ensures { λ r. ⌜ r ≡ (eqb (byteOf (now (p .entry)) 0) 3 && isGood (numberOf (now (p .entry)))) ⌝ }
+{
+    (be16(p, 0) == 768) & unused_from_12(p)
+}
+
+// Whether form and detail are a length's, and its layout is kept.
+fn is_length(p: &[u8]) -> bool
+    requires { ⌜ length (now p) ≡ 24 ⌝ }
+    ensures { λ r. ⌜ r ≡ (eqb (byteOf (now (p .entry)) 0) 4 && isGood (lengthOf (now (p .entry)))) ⌝ }
+{
+    is_among(be16(p, 0), 1025, 1028) & (is_finite(be64(p, 8)) & blank8(p, 16))
+}
+
+// Whether form and detail are a point's, and its layout is kept.
+fn is_point(p: &[u8]) -> bool
+    requires { ⌜ length (now p) ≡ 24 ⌝ }
+    ensures { λ r. ⌜ r ≡ (eqb (byteOf (now (p .entry)) 0) 5 && isGood (pointOf (now (p .entry)))) ⌝ }
+{
+    let latitude = double(be64(p, 8));
+    let longitude = double(be64(p, 16));
+    (be16(p, 0) == 1280) & (within(latitude, 90.0) & within(longitude, 180.0))
+}
+
+// Whether the 24 bytes of a property keep the layout and mention it.
+fn is_mentioned(p: &[u8]) -> bool
+    requires { ⌜ length (now p) ≡ 24 ⌝ }
+    ensures { λ r. ⌜ r ≡ (isGood (decodeOf (now (p .entry))) && mentions (byteOf (now (p .entry)) 0)) ⌝ }
+{
+    let reserved = blank_past_two(p, 0);
+    if reserved & (is_nil(p) | (is_code(p) | (is_number(p) | is_length(p)))) {
+        return true;
+    }
+    reserved & is_point(p)
+}
+
+// Whether the 24 bytes of a property are all zero, so that it is not mentioned.
+fn is_blank(p: &[u8]) -> bool
+    ensures { λ r. ⌜ r ≡ (filled 0 8 (now (p .entry)) 0 && filled 0 16 (now (p .entry)) 8) ⌝ }
+{
+    blank8(p, 0) & unused_from_8(p)
 }
 
 // The place `stride` bytes after `at`, or the end where that is nearer.
@@ -272,10 +335,12 @@ pub fn check_eight(bytes: &[u8], stride: usize) -> Survey
             return Survey::FirstBad(i);
         }
         let end = at + 24;
-        let Decoded::Good(value) = decode(&bytes[at..end]) else {
-            return Survey::FirstBad(i);
-        };
-        mentioned += tally(value);
+        if !is_blank(&bytes[at..end]) {
+            if !is_mentioned(&bytes[at..end]) {
+                return Survey::FirstBad(i);
+            }
+            mentioned += 1;
+        }
         at = past(bytes, at, stride);
         i += 1;
     }

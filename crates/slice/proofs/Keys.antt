@@ -5,6 +5,7 @@ use lib.Dec.{eqb}
 use borrow.Author.Tests.{eqb-true, eq-eqb}
 use Rattle.laws.proofs.Tests.{and-both}
 use Rattle.laws.proofs.Orders.{lex-irrefl, lex-trans, lex-total}
+use Rattle.laws.proofs.Places.{KeyOrder}
 use Rattle.numbers.specs.Numbers.{sameSequence}
 use Rattle.slice.specs.Record.{keyLess, sameKey}
 use Rattle.slice.specs.declared.record.Key.{Key}
@@ -36,3 +37,7 @@ same-key a b h =
 pub key-same : (a b : Key) → a ≡ b → sameKey a b ≡ true
 unfolding sameKey sameSequence
 key-same a b e = rw (eq-eqb (a .kind) (b .kind) (ap (λ k. k .kind) e), eq-eqb (a .sequence .0) (b .sequence .0) (ap (λ k. k .sequence .0) e))
+
+-- what the floors above ask of keys
+pub key-order : KeyOrder keyLess sameKey
+key-order = record { irrefl = key-irrefl; trans = key-trans; total = key-total; told = same-key; tells = key-same }

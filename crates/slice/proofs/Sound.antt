@@ -23,10 +23,10 @@ use Rattle.slice.specs.declared.check.Checked.the-variants.{Sound}
 use Rattle.slice.proofs.Stages.{record-is, slice-is}
 
 -- ---- the answers of the check are told apart by their numbers
-refused-apart : (n : ℕ) → refused n ≡ Sound → ⊥
+pub refused-apart : (n : ℕ) → refused n ≡ Sound → ⊥
 refused-apart n e = let z : _≡_ {A = ℕ} 0 1 = cc in omega arith
 
-refused-tells : (m n : ℕ) → refused m ≡ refused n → m ≡ n
+pub refused-tells : (m n : ℕ) → refused m ≡ refused n → m ≡ n
 refused-tells m n e = ap numberOf e
 
 -- a slice is refused with the number of the first test that it fails, and with no other

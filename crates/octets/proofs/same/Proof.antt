@@ -10,8 +10,8 @@ use lib.ListN.{length}
 use lib.Dec.{eqb}
 use borrow.Author.Needs.{needs}
 use borrow.Author.Tests.{leb-true, eq-eqb, ne-eqb}
-use Rattle.octets.specs.Bytes.{byteOf, each, beOf, sameBytes}
-use Rattle.octets.proofs.Runs.{run-on, run-off, run-end, each-one, word-same}
+use Rattle.octets.specs.Bytes.{byteOf, each, leOf, sameBytes}
+use Rattle.octets.proofs.Runs.{run-on, run-off, run-end, each-one, low-same}
 use Rattle.octets.proofs.same.Statement.{statement}
 use Rattle.octets.proofs.same.Tie as tie
 
@@ -41,21 +41,21 @@ module _ (c : tie.Then2 Inv-loop μ-loop) where
   has8 = leb-true _ _ (sym (c .before .has .ensures) ∙ c .if2 .taken)
 
   word : each (alike (start (c .before .before .before) .args .a .now) (start (c .before .before .before) .args .b .now)) 8 (c .before .before .before .loop .at)
-      ≡ eqb (beOf 8 (start (c .before .before .before) .args .a .now) (c .before .before .before .loop .at)) (beOf 8 (start (c .before .before .before) .args .b .now) (c .before .before .before .loop .at))
+      ≡ eqb (leOf 8 (start (c .before .before .before) .args .a .now) (c .before .before .before .loop .at)) (leOf 8 (start (c .before .before .before) .args .b .now) (c .before .before .before .loop .at))
   word =
       let e = c .before .before .before .before in
-      word-same 8 _ _ (λ i. e .before .before .shared-slice-known .given i .fits) has8 _ (λ i. e .before .shared-slice-known2 .given i .fits) (omega (arith, has8))
+      low-same _ _ (λ i. e .before .before .shared-slice-known .given i .fits) has8 _ (λ i. e .before .shared-slice-known2 .given i .fits) (omega (arith, has8))
 
 returns-2 : tie.Need-returns-2 Inv-loop μ-loop
 returns-2 c =
     let t = c .before .before .before in
-    sym (t .before .before .before .loop .inv .1 .1 ∙ run-off _ 8 _ _ (has8 t) (word t ∙ ne-eqb _ _ (λ e. c .if3 .taken (c .before .before .be64 .ensures ∙ e ∙ sym (c .before .be642 .ensures)))))
+    sym (t .before .before .before .loop .inv .1 .1 ∙ run-off _ 8 _ _ (has8 t) (word t ∙ ne-eqb _ _ (λ e. c .if3 .taken (c .before .before .le64 .ensures ∙ e ∙ sym (c .before .le642 .ensures)))))
 
 loop-again : tie.Need-loop-again Inv-loop μ-loop
 loop-again c =
     let t = c .before .before .before in
     let l = t .before .before .before .loop in
-    (has8 t, (l .inv .1 .0, l .inv .1 .1 ∙ run-on _ 8 _ _ (has8 t) (word t ∙ eq-eqb _ _ (sym (c .before .before .be64 .ensures) ∙ c .if3 .left ∙ c .before .be642 .ensures))))
+    (has8 t, (l .inv .1 .0, l .inv .1 .1 ∙ run-on _ 8 _ _ (has8 t) (word t ∙ eq-eqb _ _ (sym (c .before .before .le64 .ensures) ∙ c .if3 .left ∙ c .before .le642 .ensures))))
 
 -- one byte
 module _ (l : tie.At-loop Inv-loop μ-loop) where

@@ -1,16 +1,20 @@
 -- `property::check_eight` meets its contract. The loop's invariant: what is found of the eight is what is found from property i on, which
 -- starts at `at`, after so many mentions. Assumes nothing.
-use Prim.Native.Nat.{_+_, _-_, _≤_}
+use Prim.Native.Nat.{ℕ, _+_, _-_, _≤_}
 use mathlib.Core.Path.{_≡_, sym, _∙_}
-use mathlib.Core.Bool.{Bool, true, false, cond}
+use mathlib.Core.List.{List}
+use mathlib.Core.Bool.{Bool, true, false, _&&_}
+use mathlib.Core.Logic.{_⊎_, inl, inr}
 use native.Mathlib.Omega.{arith}
 use lib.ListN.{length, take, drop, length-take, length-drop}
 use borrow.Author.Needs.{needs}
 use Rattle.laws.specs.Lists.{pieces}
-use Rattle.property.specs.Value.{isMention}
+use Rattle.property.specs.Value.{mentions}
 use Rattle.property.specs.Layout.{decodeOf}
-use Rattle.property.specs.Eight.{surveyOf}
-use Rattle.property.proofs.Found.{foundFrom, found-start, found-end, breaks-less, turn-bad, turn-less, turn-broken, turn-good}
+use Rattle.property.specs.Eight.{isGood, surveyOf}
+use Rattle.octets.specs.Bytes.{byteOf, filled}
+use Rattle.property.proofs.Found.{foundFrom, found-start, found-end, breaks-less, turn-bad, turn-less, turn-broken, turn-mentioned, turn-silent}
+use Rattle.property.proofs.Sound.{blank-told, bad-told, from-not, from-not-false}
 use Rattle.property.proofs.check_eight.Statement.{statement}
 use Rattle.property.proofs.check_eight.Tie as tie
 
@@ -21,9 +25,9 @@ Inv-loop bytes stride at₀ mentioned₀ i₀ at mentioned i =
 abbrev μ-loop : tie.MeasureT-loop
 μ-loop bytes stride at₀ mentioned₀ i₀ at mentioned i = 8 - i
 
-at-most-one : (b : Bool) → cond b 1 0 ≤ 1
-at-most-one true = omega arith
-at-most-one false = omega arith
+by-either {ℓ} : {A B : Type 0} {X : Type ℓ} → A ⊎ B → (A → X) → (B → X) → X
+by-either (inl a) f g = f a
+by-either (inr b) f g = g b
 
 returns : tie.Need-returns Inv-loop μ-loop
 returns c =
@@ -36,13 +40,26 @@ loop-holds c = (omega arith, (omega arith, (omega arith, found-start (c .before 
 abbrev start : tie.At-loop Inv-loop μ-loop → tie.Start Inv-loop μ-loop
 start l = l .before .before .before
 
--- the part that is decoded
-part : (c : tie.After-decode Inv-loop μ-loop) → let l = c .before .before .before .before in
-    decodeOf (take 24 (drop (l .loop .at) (start l .args .bytes .now))) ≡ c .decode .result
-part c =
-    let l = c .before .before .before .before in
+-- the part that is read
+module _ (d : tie.After-is-blank Inv-loop μ-loop) where
+  abbrev piece : List ℕ
+  piece = take 24 (drop (d .before .before .before .before .loop .at) (start (d .before .before .before .before) .args .bytes .now))
+
+  sized : length piece ≡ 24
+  sized = simp (length-take, length-drop) (omega arith)
+
+  blank : d .is-blank .result ≡ (filled 0 8 piece 0 && filled 0 16 piece 8)
+  blank =
+      let l = d .before .before .before .before in
+      let e : l .loop .at + 24 - l .loop .at ≡ 24 = omega arith in
+      rw e at (d .is-blank .ensures)
+
+mention : (m : tie.After-is-mentioned Inv-loop μ-loop) → m .is-mentioned .result
+    ≡ (isGood (decodeOf (piece (m .before .before .before))) && mentions (byteOf (piece (m .before .before .before)) 0))
+mention m =
+    let l = m .before .before .before .before .before .before .before in
     let e : l .loop .at + 24 - l .loop .at ≡ 24 = omega arith in
-    sym (rw e at (c .decode .ensures))
+    rw e at (m .is-mentioned .ensures)
 
 returns-2 : tie.Need-returns-2 Inv-loop μ-loop
 returns-2 c =
@@ -51,32 +68,33 @@ returns-2 c =
 
 returns-3 : tie.Need-returns-3 Inv-loop μ-loop
 returns-3 c =
-    let d = c .before .before in
+    let m = c .before in
+    let d = m .before .before .before in
     let t = d .before .before .before in
-    sym (t .before .loop .inv .1 .1 .1 ∙ turn-broken _ _ _ _ (t .loop-test .taken) (t .before .before .if1 .left) (part d ∙ c .enum-told .given .1))
+    sym (t .before .loop .inv .1 .1 .1 ∙ turn-broken _ _ _ _ (t .loop-test .taken) (t .before .before .if1 .left)
+    (bad-told (piece d) (sized d) (sym (blank d) ∙ from-not _ (m .before .before .if3 .taken)) (sym (mention m) ∙ from-not _ (c .if4 .taken))))
 
--- a tally is at most 1
-one : (c : tie.After-tally Inv-loop μ-loop) → c .tally .result ≤ 1
-one c = rw (c .tally .ensures) (at-most-one (isMention (c .before .before .value .given .0 .0)))
-
-add-mentioned : tie.Need-add-mentioned Inv-loop μ-loop
-add-mentioned c = omega (arith, one c)
+-- after a property
+step : (c : tie.Joined3 Inv-loop μ-loop) → let l = c .before .before .before .before .before in
+    (c .if3 .mentioned ≤ l .loop .i + 1)
+    × (surveyOf (start l .args .stride) (start l .args .bytes .now)
+    ≡ foundFrom (l .loop .i + 1) (c .if3 .mentioned) (pieces (start l .args .stride) (8 - (l .loop .i + 1)) (drop (start l .args .stride) (drop (l .loop .at) (start l .args .bytes .now)))))
+step c =
+    let t = c .before .before .before .before in
+    by-either (c .if3 .came)
+    (λ x. (
+      omega (arith, x .4),
+      rw (x .4) (t .before .loop .inv .1 .1 .1 ∙ turn-mentioned _ _ _ _ (t .loop-test .taken) (t .before .before .if1 .left)
+          (sym (mention (record { before = record { before = record { before = c .before; if3 = x .0 }; is-mentioned-arg = x .1 }; is-mentioned = x .2 })) ∙ from-not-false _ (x .3 .left))),
+    ))
+    (λ x. (
+      omega (arith, x .1),
+      rw (x .1) (t .before .loop .inv .1 .1 .1 ∙ turn-silent _ _ _ _ (t .loop-test .taken) (t .before .before .if1 .left)
+          (blank-told (piece (c .before)) (sized (c .before)) (sym (blank (c .before)) ∙ from-not-false _ (x .0 .left)))),
+    ))
 
 loop-again : tie.Need-loop-again Inv-loop μ-loop
-loop-again c =
-    let d = c .before .before .before .before .before in
-    let t = d .before .before .before in
-    let v = c .before .before .before .value .given in (
-      omega arith,
-      (
-        omega arith,
-        (
-          omega (arith, one (c .before)),
-          rw (c .before .tally .ensures, c .past .ensures .1)
-              (t .before .loop .inv .1 .1 .1 ∙ turn-good _ _ _ _ (t .loop-test .taken) (t .before .before .if1 .left) (v .0 .0) (part d ∙ v .1)),
-        ),
-      ),
-    )
+loop-again c = (omega arith, (omega arith, (step (c .before) .0, rw (c .past .ensures .1) (step (c .before) .1))))
 
 returns-4 : tie.Need-returns-4 Inv-loop μ-loop
 returns-4 c =
@@ -101,9 +119,10 @@ check-eight-spec =
     (λ c κs. search needs)
     (λ c. search needs)
     (λ c. search needs)
-    returns-3
+    (λ c. search needs)
     (λ c κs. search needs)
-    add-mentioned
+    returns-3
+    (λ c. search needs)
     (λ c κs. search needs)
     (λ c. search needs)
     (λ c. search needs)

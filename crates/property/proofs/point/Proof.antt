@@ -1,20 +1,10 @@
 -- `property::point` meets its contract: the pieces are those of the definition. Assumes nothing.
-use mathlib.Core.Path.{_≡_, refl, _∙_}
-use mathlib.Core.Bool.{_&&_}
-use lib.Ieee.{Float, binary64, ofBits, ofInt, neg, le}
+use mathlib.Core.Path.{_∙_}
 use borrow.Author.Needs.{needs}
-use Rattle.property.specs.Layout.{degrees, pointOf}
+use Rattle.property.specs.Layout.{pointOf}
+use Rattle.property.proofs.Sound.{ninety, one-eighty}
 use Rattle.property.proofs.point.Statement.{statement}
 use Rattle.property.proofs.point.Tie as tie
-
--- each limit is one value, by its bits in the code and by its number in the definition
-ninety : (x : Float) → (le (neg (ofBits binary64 0x4056_8000_0000_0000)) x && le x (ofBits binary64 0x4056_8000_0000_0000)) ≡ degrees 90 x
-unfolding ofBits ofInt
-ninety x = refl
-
-one-eighty : (x : Float) → (le (neg (ofBits binary64 0x4066_8000_0000_0000)) x && le x (ofBits binary64 0x4066_8000_0000_0000)) ≡ degrees 180 x
-unfolding ofBits ofInt
-one-eighty x = refl
 
 returns : tie.Need-returns
 unfolding pointOf
