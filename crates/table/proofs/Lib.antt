@@ -1,0 +1,14 @@
+pub mod Records
+pub mod Walks
+pub mod Search
+pub mod Written
+pub mod Answers
+pub mod Stages
+pub mod Sound
+pub mod Made
+pub mod Kept
+pub mod Stays
+pub mod Delivered
+pub mod AnyOrder
+pub mod Decides
+pub mod OneAnswer

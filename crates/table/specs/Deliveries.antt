@@ -1,0 +1,53 @@
+-- Deliveries to a new table, and the table of their set worked out afresh (demand 3). Assumes nothing.
+use Prim.Native.Nat.{ℕ, _+_}
+use mathlib.Core.List.{List, [], _∷_, _++_, map}
+use mathlib.Core.Bool.{Bool, not}
+use lib.ListN.{length, drop}
+use Rattle.laws.specs.Lists.{kept, joined}
+use Rattle.laws.specs.Keyed.{In, Consistent, Fresh, distinct, afresh}
+use Rattle.slice.specs.Record.{correctionOf, keyOf, keyLess, sameKey}
+use Rattle.slice.specs.Check.{checkSlice}
+use Rattle.table.specs.Header.{headerOf}
+use Rattle.table.specs.Rules.{isRefused}
+use Rattle.table.specs.Arriving.{recordOf, arrivedAt}
+
+-- the buffer after the arrivals of slices, in that order
+abbrev pub deliveredTo : List ℕ → List (List ℕ) → List ℕ
+deliveredTo t [] = t
+deliveredTo t (s ∷ ss) = deliveredTo (arrivedAt t s) ss
+
+-- the records of those slices that pass the slice check for a feature and a side
+abbrev pub passes : ℕ → List ℕ → ℕ → List ℕ → Bool
+passes stride feature side s = not (isRefused (checkSlice stride feature side s))
+
+abbrev pub sentTo : ℕ → List ℕ → ℕ → List (List ℕ) → List (List ℕ)
+sentTo stride feature side ss = map recordOf (kept (passes stride feature side) ss)
+
+abbrev pub correctionNumber : List ℕ → ℕ
+correctionNumber r = correctionOf r .0
+
+-- no two records of a set are alike in kind, sequence and correction but different in content
+abbrev pub Agree : List (List ℕ) → Type 0
+Agree set = Consistent keyOf keyLess sameKey correctionNumber (λ r. In r set)
+
+-- how many kinds and sequences a set has
+abbrev pub pairsIn : List (List ℕ) → ℕ
+pairsIn set = distinct keyOf keyLess sameKey set
+
+-- for each kind and sequence of a set of records the one with the highest correction, in rising order
+unfoldable pub recordsAfresh : List (List ℕ) → List (List ℕ)
+recordsAfresh set = afresh keyOf keyLess sameKey correctionNumber set
+
+-- a buffer that holds records as the table of a side and a feature: its header and count, the records, and every byte beyond
+-- them as it was
+abbrev pub holding : List ℕ → ℕ → List ℕ → List (List ℕ) → List ℕ
+holding buffer side feature rs = headerOf side feature (length rs) ++ (joined rs ++ drop (32 + length (joined rs)) buffer)
+
+-- the table of a set of records, worked out afresh
+abbrev pub tableAfresh : List ℕ → ℕ → List ℕ → List (List ℕ) → List ℕ
+tableAfresh buffer side feature set = holding buffer side feature (recordsAfresh set)
+
+-- what it is to be the records of a set's table: they rise, they are in the set, and each record of the set is covered by one of its
+-- kind and sequence with at least its correction
+abbrev pub TableOf : List (List ℕ) → List (List ℕ) → Type 0
+TableOf set rs = Fresh keyOf keyLess sameKey correctionNumber (λ r. In r set) rs

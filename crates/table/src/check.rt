@@ -1,0 +1,110 @@
+// The check of a table: rules 1 to 7, in their order.
+ghost use mathlib.Core.Path.{_≡_};
+ghost use Prim.Native.Nat.{_≤_};
+ghost use Rattle.slice.specs.Record.{recordSize};
+ghost use Rattle.table.specs.Header.{countOf, roomOf, recordsOf};
+ghost use Rattle.table.specs.Rules.{takes, failing, inOrder, checkTable};
+use crate::header::count_of;
+use crate::header::is_lettered;
+use crate::header::record_at;
+use crate::header::room_of;
+use crate::header::side_of;
+use crate::header::stride_of;
+use octets::be16;
+use octets::blank8;
+use slice::Checked;
+use slice::Refusal;
+use slice::check_record;
+use slice::key_of;
+
+// The sides that a call takes.
+pub enum Sides {
+    Permanent,
+    Temporary,
+    Both,
+}
+
+// The place of a record that a search has found.
+pub enum Found {
+    At(usize),
+    Nowhere,
+}
+
+// Whether a call that takes some sides takes this one.
+pub fn takes_side(sides: Sides, side: u8) -> bool
+    ensures { λ r. ⌜ r ≡ takes sides side ⌝ }
+{
+    match sides {
+        Sides::Permanent => side == slice::PERMANENT,
+        Sides::Temporary => side == slice::TEMPORARY,
+        Sides::Both => (side == slice::PERMANENT) | (side == slice::TEMPORARY),
+    }
+}
+
+// The first record of a table that fails 11 to 16.
+fn first_failing(table: &[u8], stride: usize, size: usize, count: usize, side: u8) -> Found
+    requires { ⌜ (size ≡ recordSize stride) × (count ≡ countOf (now table)) × (count ≤ roomOf size (now table)) ⌝ }
+    ensures { λ r. ⌜ r ≡ failing stride side (recordsOf size (now (table .entry))) ⌝ }
+{
+    let mut i = 0;
+    while i < count {
+        if let Checked::Refused(_) = check_record(record_at(table, size, i), stride, side) {
+            return Found::At(i);
+        }
+        i += 1;
+    }
+    Found::Nowhere
+}
+
+// Whether the records of a table stand in strictly rising order.
+fn is_in_order(table: &[u8], size: usize, count: usize) -> bool
+    requires { ⌜ (count ≡ countOf (now table)) × (count ≤ roomOf size (now table)) ⌝ }
+    ensures { λ r. ⌜ r ≡ inOrder (recordsOf size (now (table .entry))) ⌝ }
+{
+    if count == 0 {
+        return true;
+    }
+    let mut last = key_of(record_at(table, size, 0));
+    let mut i = 1;
+    while i < count {
+        let next = key_of(record_at(table, size, i));
+        if !last.precedes(next) {
+            return false;
+        }
+        last = next;
+        i += 1;
+    }
+    true
+}
+
+// The check of a table, rules 1 to 7, by a call that takes some sides.
+pub fn check_table(table: &[u8], sides: Sides) -> Checked
+    ensures { λ r. ⌜ r ≡ checkTable sides (now (table .entry)) ⌝ }
+{
+    if table.len() < 32 {
+        return Checked::Refused(Refusal { number: 1 });
+    }
+    let side = side_of(table);
+    if !(is_lettered(table) & takes_side(sides, side)) {
+        return Checked::Refused(Refusal { number: 2 });
+    }
+    if be16(table, 4) != 1 {
+        return Checked::Refused(Refusal { number: 3 });
+    }
+    if !blank8(table, 24) {
+        return Checked::Refused(Refusal { number: 4 });
+    }
+    let stride = stride_of(table);
+    let size = 32 + 8 * stride;
+    let count = count_of(table) as usize;
+    if room_of(table, size) < count {
+        return Checked::Refused(Refusal { number: 5 });
+    }
+    let Found::Nowhere = first_failing(table, stride, size, count, side) else {
+        return Checked::Refused(Refusal { number: 6 });
+    };
+    if !is_in_order(table, size, count) {
+        return Checked::Refused(Refusal { number: 7 });
+    }
+    Checked::Sound
+}
