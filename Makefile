@@ -1,16 +1,32 @@
-# make test    the gate: proves, tries the wrong programs, runs the programs, compares with the second program
-# make sample  proves and builds the program `vectors`, and asks it about the slices of samples/slices
-# make fmt     lays out every file of Rattle and antt
+# make test     the gate: proves, tries the wrong programs, runs the programs, compares with the second program
+# make sample   proves and builds the program `vectors`, and asks it about samples/feed and samples/slices
+# make lib      proves the C interface and writes target/staticlib/libtimeslices.a, for x86-64
+# make compare  plays random calls to the library and to the second program for a minute (x86-64)
+# make bench    measures the library against plain Rust (x86-64)
+# make fmt      lays out every file of Rattle and antt
 
-.PHONY: test sample fmt
+.PHONY: test sample lib compare bench second-linked fmt
 
 test:
 	@.ci/run
 
 sample:
-	@echo 'proving and building: a minute and a half' >&2
+	@echo 'proving and building: about three minutes' >&2
 	@mkdir -p target && { rt check vectors >target/sample.log 2>&1 || { cat target/sample.log; exit 1; }; }
+	@samples/ask samples/feed
 	@samples/ask samples/slices
+
+lib:
+	@rt staticlib timeslices
+
+second-linked: lib
+	@cd second && cargo build --quiet --offline --release --features linked --target-dir target/linked
+
+compare: second-linked
+	@second/target/linked/release/second compare 60s
+
+bench: second-linked
+	@second/target/linked/release/second bench
 
 fmt:
 	@rt fmt

@@ -1,35 +1,87 @@
-//! The second program: the property layout, the property rule and the slice check,
-//! written from the specification alone, and the vectors that go with them.
+//! The second program: the property layout, the property rule, the slice check, tables and arrivals,
+//! written from the specification alone, and the vectors that go with them. Where the library is
+//! linked it is compared and measured.
 
+mod arrival;
+#[cfg(any(test, feature = "linked"))]
+mod bench;
+#[cfg(any(test, feature = "linked"))]
+mod compare;
+#[cfg(any(test, feature = "linked"))]
+mod library;
+#[cfg(feature = "linked")]
+mod linked;
+#[cfg(any(test, feature = "linked"))]
+mod plain;
+mod play;
 mod property;
 mod random;
 mod record;
+mod refusal;
 mod slice;
+mod supply;
+mod table;
 mod vectors;
 
 use std::io::Write;
 use std::process::ExitCode;
 
+/// The exit code for an ask that is unknown.
+const UNKNOWN: u8 = 2;
+
 /// Answers the text a command line asks for, if it asks for one.
-fn text(arguments: &[String]) -> Option<String> {
-    let words: Vec<&str> = arguments.iter().map(String::as_str).collect();
-    match words[..] {
+fn text(words: &[&str]) -> Option<String> {
+    match words {
         ["vectors"] => Some(vectors::all().listing()),
         ["vectors", "input"] => Some(vectors::all().input()),
         ["vectors", "answers"] => Some(vectors::all().answers()),
+        ["vectors", "input", seed] => Some(vectors::random(seed.parse().ok()?).input()),
+        ["vectors", "answers", seed] => Some(vectors::random(seed.parse().ok()?).answers()),
         _ => None,
     }
 }
 
-/// Prints what was asked for; answers 0, 1 where it cannot be written, 2 where the ask is unknown.
+/// Compares or measures the library; answers whether all was well, or nothing for another ask.
+#[cfg(feature = "linked")]
+fn with_library(words: &[&str]) -> Option<bool> {
+    use compare::Limit;
+    let (limit, seed) = match words {
+        ["bench"] => return Some(bench::run(&linked::LINKED, 21)),
+        ["bench", rounds] => return Some(bench::run(&linked::LINKED, rounds.parse().ok()?)),
+        ["compare"] => (Limit::Rounds(200), 1),
+        ["compare", limit] => (Limit::of(limit)?, 1),
+        ["compare", limit, seed] => (Limit::of(limit)?, seed.parse().ok()?),
+        _ => return None,
+    };
+    Some(compare::run(&linked::LINKED, limit, seed))
+}
+
+/// Says that the library is not linked, where it is needed; answers nothing for another ask.
+#[cfg(not(feature = "linked"))]
+fn with_library(words: &[&str]) -> Option<bool> {
+    let name = words
+        .first()
+        .filter(|name| ["compare", "bench"].contains(name))?;
+    eprintln!("second {name} needs the library: build with --features linked");
+    Some(false)
+}
+
+/// Does what was asked for; answers 0, 1 where it failed, 2 where the ask is unknown.
 fn main() -> ExitCode {
     let arguments: Vec<String> = std::env::args().skip(1).collect();
-    let Some(text) = text(&arguments) else {
-        eprintln!("usage: second vectors [input|answers]");
-        return ExitCode::from(2);
+    let words: Vec<&str> = arguments.iter().map(String::as_str).collect();
+    let done = match text(&words) {
+        Some(text) => Some(std::io::stdout().write_all(text.as_bytes()).is_ok()),
+        None => with_library(&words),
     };
-    match std::io::stdout().write_all(text.as_bytes()) {
-        Ok(()) => ExitCode::SUCCESS,
-        Err(_) => ExitCode::FAILURE,
+    match done {
+        Some(true) => ExitCode::SUCCESS,
+        Some(false) => ExitCode::FAILURE,
+        None => {
+            eprintln!(
+                "usage: second vectors [input|answers] | vectors input|answers SEED | compare [ROUNDS|SECONDSs] [SEED] | bench [ROUNDS]"
+            );
+            ExitCode::from(UNKNOWN)
+        }
     }
 }

@@ -59,6 +59,29 @@ impl Value {
     pub fn is_mention(&self) -> bool {
         *self != Value::Unmentioned
     }
+
+    /// Answers the bytes that say this; decoding them gives it back.
+    pub fn write(self) -> [u8; PROPERTY_BYTES] {
+        match self {
+            Value::Unmentioned => encode(0, 0, &[]),
+            Value::Nil(reason) => encode(1, 1 + reason as u8, &[]),
+            Value::Code(code) => encode(2, 0, &code.to_be_bytes()),
+            Value::Number(number) => encode(3, 0, &number.to_be_bytes()),
+            Value::Length(length, unit) => encode(4, 1 + unit as u8, &length.to_be_bytes()),
+            Value::Point(place) => {
+                let (first, second) = (place.latitude.to_bits(), place.longitude.to_bits());
+                encode(5, 0, &[first.to_be_bytes(), second.to_be_bytes()].concat())
+            }
+        }
+    }
+}
+
+/// Answers a part of a form, a detail and the first bytes of the content, the rest zero.
+fn encode(form: u8, detail: u8, content: &[u8]) -> [u8; PROPERTY_BYTES] {
+    let mut part = [0; PROPERTY_BYTES];
+    part[..2].copy_from_slice(&[form, detail]);
+    part[8..8 + content.len()].copy_from_slice(content);
+    part
 }
 
 /// Answers the value that a property part holds, or nothing where the part breaks the layout.
@@ -237,6 +260,18 @@ mod tests {
         part[1] = detail;
         part[8..8 + content.len()].copy_from_slice(content);
         part
+    }
+
+    /// Writing undoes decoding, to the last bit of a double.
+    #[test]
+    fn a_value_is_written_as_it_was_decoded() {
+        let mut parts = vec![[0; 24], part(2, 0, &[1, 2]), part(3, 0, &[128, 0, 0, 7])];
+        parts.extend((1..=5).map(|detail| part(1, detail, &[])));
+        parts.extend((1..=4).map(|unit| part(4, unit, &(-0.0f64).to_be_bytes())));
+        parts.extend([point_part(-0.0, 0.0), point_part(-90.0, 179.5)]);
+        for part in parts {
+            assert_eq!(decode(&part).unwrap().write(), part);
+        }
     }
 
     /// Makes a point part of two doubles.

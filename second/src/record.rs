@@ -12,11 +12,11 @@ pub const HEAD_BYTES: usize = 32;
 pub const NONE: u32 = u32::MAX;
 
 /// A correction number.
-#[derive(Clone, Copy, Debug, PartialEq)]
+#[derive(Clone, Copy, Debug, PartialEq, Eq, PartialOrd, Ord)]
 pub struct Correction(pub u16);
 
 /// A sequence number.
-#[derive(Clone, Copy, Debug, PartialEq)]
+#[derive(Clone, Copy, Debug, PartialEq, Eq, PartialOrd, Ord)]
 pub struct Sequence(pub u32);
 
 /// Seconds from the beginning of 2000, never "none".
@@ -36,6 +36,13 @@ pub enum Kind {
     Baseline,
     PermDelta,
     TempDelta,
+}
+
+/// What a record is filed under; keys rise by kind, then by sequence number.
+#[derive(Clone, Copy, Debug, PartialEq, Eq, PartialOrd, Ord)]
+pub struct Key {
+    pub kind: u8,
+    pub sequence: Sequence,
 }
 
 /// A begin and an end, each given or none.
@@ -201,6 +208,24 @@ impl Record {
             properties: properties(rest),
         }
     }
+
+    /// Answers the bytes of a record whose properties all have values; reading them gives it back.
+    pub fn write(&self) -> Vec<u8> {
+        let mut bytes = self.head.write();
+        for property in self.properties {
+            let value = property.expect("only sound records are written");
+            bytes.extend(value.write());
+        }
+        bytes
+    }
+
+    /// Answers what the record is filed under.
+    pub fn key(&self) -> Key {
+        Key {
+            kind: self.head.kind,
+            sequence: self.head.sequence,
+        }
+    }
 }
 
 #[cfg(test)]
@@ -249,6 +274,22 @@ mod tests {
     fn a_head_is_written_as_it_was_read() {
         let head: [u8; HEAD_BYTES] = *bytes().first_chunk().unwrap();
         assert_eq!(Head::read(&head).write(), head);
+    }
+
+    /// Kind first, then the whole sequence number.
+    #[test]
+    fn keys_rise_by_kind_then_sequence() {
+        let key = |kind, sequence| Key {
+            kind,
+            sequence: Sequence(sequence),
+        };
+        assert!(key(1, NONE) < key(2, 0));
+        assert!(key(2, 255) < key(2, 256));
+        assert!(key(2, 0x00ff_ffff) < key(2, 0x0100_0000));
+        let mut sound = bytes();
+        sound[32] = 0;
+        assert_eq!(Record::read(&sound).key(), key(2, 258));
+        assert_eq!(Record::read(&sound).write(), sound);
     }
 
     /// "bit 0: cancelled".

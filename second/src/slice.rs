@@ -2,25 +2,13 @@
 
 use crate::property::{find, Finding, Value, PROPERTIES};
 use crate::record::{Head, Instant, Kind, Record, Side, Span, RECORD_BYTES};
+use crate::refusal::{hold, Refusal};
 
 /// The bytes of a feature identifier.
 pub const FEATURE_BYTES: usize = 16;
 
 /// The bytes of a slice in delivery: the feature identifier, then a record.
 pub const SLICE_BYTES: usize = FEATURE_BYTES + RECORD_BYTES;
-
-/// What a slice is refused for, with the paper's number.
-#[derive(Clone, Copy, Debug, PartialEq)]
-pub enum Refusal {
-    Length = 9,
-    Feature = 10,
-    Kind = 11,
-    Spare = 12,
-    Cancelled = 13,
-    Layout = 14,
-    Times = 15,
-    Content = 16,
-}
 
 /// Answers the first refusal that a slice meets on its way to a side of a feature, if any.
 pub fn check(slice: &[u8], feature: &[u8], side: u8) -> Result<(), Refusal> {
@@ -31,7 +19,7 @@ pub fn check(slice: &[u8], feature: &[u8], side: u8) -> Result<(), Refusal> {
 }
 
 /// Answers the first refusal, 11 to 16, that a record meets on its way to a side, if any.
-fn check_record(record: &Record, side: u8) -> Result<(), Refusal> {
+pub fn check_record(record: &Record, side: u8) -> Result<(), Refusal> {
     let Record { head, properties } = record;
     let kind = kind_of_side(head.kind, side).ok_or(Refusal::Kind)?;
     hold(spare_is_zero(head), Refusal::Spare)?;
@@ -49,15 +37,6 @@ fn check_record(record: &Record, side: u8) -> Result<(), Refusal> {
         content_is_right(kind, mentions, head.life),
         Refusal::Content,
     )
-}
-
-/// Answers the refusal where its rule does not hold.
-fn hold(rule: bool, refusal: Refusal) -> Result<(), Refusal> {
-    if rule {
-        Ok(())
-    } else {
-        Err(refusal)
-    }
 }
 
 /// Answers the kind that a byte names, where that kind is of the side.
@@ -129,6 +108,7 @@ fn content_is_right(kind: Kind, mentions: usize, life: Span) -> bool {
 #[cfg(test)]
 mod tests {
     use super::*;
+    use crate::refusal::number_of;
 
     const FEATURE: [u8; 16] = [7; 16];
     const NONE: u32 = 4_294_967_295;
@@ -167,7 +147,7 @@ mod tests {
 
     /// Answers the number of the check, 0 where the slice is sound.
     fn number(slice: &[u8], side: u8) -> u8 {
-        check(slice, &FEATURE, side).map_or_else(|refusal| refusal as u8, |()| 0)
+        number_of(check(slice, &FEATURE, side))
     }
 
     /// Answers the number for a slice of a kind, its times and its mentions, on its own side.

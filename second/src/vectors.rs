@@ -4,20 +4,26 @@ mod areas;
 mod cancelled;
 mod chance;
 mod content;
+mod creation;
 mod faults;
+mod feeds;
+mod filing;
+pub mod format;
 mod parts;
-mod sample;
+mod rooms;
+mod rules;
+pub mod sample;
 mod slices;
 mod times;
 
+use crate::arrival::{self, Arrival};
+use crate::play::{round, Call, Player};
 use crate::property;
+use crate::refusal::{number_of, Refusal};
+use crate::table::{self, Sides};
+use format::{buffer_line, changes, line, table_lines, BUFFER_BYTES, FEATURE_BYTES, TABLE_BYTES};
 use sample::Case;
-
-/// The longest buffer the format allows.
-const BUFFER_BYTES: usize = 512;
-
-/// The longest feature the format allows.
-const FEATURE_BYTES: usize = 64;
+use std::convert::Infallible;
 
 /// One line of the listing: a title for a person, or an ask.
 enum Row {
@@ -32,20 +38,25 @@ struct Ask {
     answer: String,
 }
 
-/// All asks in order, with the buffer and the feature as the last line left them.
+/// All asks in order, with the buffer, the feature and the table as the last line left them, and
+/// the table as it was before the last ask about one.
+#[derive(Default)]
 pub struct Script {
     buffer: Vec<u8>,
     feature: Vec<u8>,
+    table: Vec<u8>,
+    before: Vec<u8>,
     rows: Vec<Row>,
+}
+
+/// Answers the number of a refusal.
+fn refused(refusal: Refusal) -> String {
+    refusal.number().to_string()
 }
 
 /// Answers every vector of this program.
 pub fn all() -> Script {
-    let mut script = Script {
-        buffer: vec![],
-        feature: vec![],
-        rows: vec![],
-    };
+    let mut script = Script::default();
     parts::add(&mut script);
     areas::add(&mut script);
     slices::add(&mut script);
@@ -54,7 +65,34 @@ pub fn all() -> Script {
     times::add(&mut script);
     content::add(&mut script);
     chance::add(&mut script);
+    creation::add(&mut script);
+    rules::add(&mut script);
+    rooms::add(&mut script);
+    filing::add(&mut script);
+    feeds::add(&mut script);
     script
+}
+
+/// Answers one round of random calls as vectors, the same for the same seed.
+pub fn random(seed: u64) -> Script {
+    let mut script = Script::default();
+    script.title("random calls");
+    let Ok(()) = round(&mut script, seed, 40);
+    script
+}
+
+impl Player for Script {
+    type Fault = Infallible;
+
+    /// Adds the call as an ask.
+    fn call(&mut self, table: &mut Vec<u8>, call: &Call) -> Result<(), Infallible> {
+        match call {
+            Call::Create { side, feature } => self.ask_creation(table, *side, &feature[..]),
+            Call::Arrive { slice } => self.ask_arrival(table, slice),
+        }
+        table.clone_from(&self.table);
+        Ok(())
+    }
 }
 
 impl Script {
@@ -84,6 +122,56 @@ impl Script {
         let changes = feature_line.into_iter().chain(buffer_line).collect();
         let answer = case.number().to_string();
         self.ask(changes, line('s', &[case.side]), answer);
+    }
+
+    /// Asks for the check of a table.
+    fn ask_table(&mut self, bytes: &[u8], sides: Sides) {
+        let lines = self.set_table(bytes);
+        let answer = number_of(table::check(bytes, sides)).to_string();
+        self.before = bytes.to_vec();
+        self.ask(lines, line('k', &[sides as u8]), answer);
+    }
+
+    /// Asks for a new table in place of these bytes, of a side and the first bytes of the feature.
+    fn ask_creation(&mut self, bytes: &[u8], side: u8, feature: &[u8]) {
+        let mut lines = self.set_table(bytes);
+        lines.extend(self.set_feature(feature));
+        let first = feature
+            .first_chunk()
+            .expect("a feature of 16 bytes or more");
+        let made = table::create(&mut self.table, side, first);
+        let answer = made.map_or_else(refused, |()| "made".to_string());
+        self.ask_change(lines, line('m', &[side]), bytes, answer);
+    }
+
+    /// Asks for the arrival of a slice at a table.
+    fn ask_arrival(&mut self, bytes: &[u8], slice: &[u8]) {
+        let mut lines = self.set_table(bytes);
+        lines.extend(self.set_buffer(slice));
+        let arrival = arrival::arrive(&mut self.table, slice);
+        let answer = arrival.map_or_else(refused, |arrival: Arrival| arrival.to_string());
+        self.ask_change(lines, "a".to_string(), bytes, answer);
+    }
+
+    /// Asks for the arrival of a slice at the table as it is now.
+    fn deliver(&mut self, slice: &[u8]) {
+        let bytes = self.table.clone();
+        self.ask_arrival(&bytes, slice);
+    }
+
+    /// Adds an ask that may have changed the table, which was these bytes.
+    fn ask_change(&mut self, lines: Vec<String>, line: String, bytes: &[u8], answer: String) {
+        let answer = answer + &changes(bytes, &self.table);
+        self.before = bytes.to_vec();
+        self.ask(lines, line, answer);
+    }
+
+    /// Changes the table; answers the lines that do so.
+    fn set_table(&mut self, bytes: &[u8]) -> Vec<String> {
+        assert!(bytes.len() <= TABLE_BYTES);
+        let lines = table_lines(&self.table, &self.before, bytes);
+        self.table = bytes.to_vec();
+        lines
     }
 
     /// Adds an ask that is ready.
@@ -158,36 +246,6 @@ impl Row {
     }
 }
 
-/// Answers the line of a command letter and its bytes.
-fn line(letter: char, bytes: &[u8]) -> String {
-    let digits = bytes.iter().map(|byte| format!("{byte:02x}"));
-    std::iter::once(letter.to_string()).chain(digits).collect()
-}
-
-/// Answers the shortest line that makes one buffer another, if they differ.
-fn buffer_line(old: &[u8], new: &[u8]) -> Option<String> {
-    if old == new {
-        return None;
-    }
-    let whole = line('b', new);
-    let patch = patch_line(old, new).filter(|patch| patch.len() < whole.len());
-    Some(patch.unwrap_or(whole))
-}
-
-/// Answers the line that sets each byte in which two buffers differ, where that can be written.
-fn patch_line(old: &[u8], new: &[u8]) -> Option<String> {
-    if old.len() != new.len() {
-        return None;
-    }
-    let pairs = (0..new.len())
-        .filter(|&offset| old[offset] != new[offset])
-        .map(|offset| {
-            let offset_byte = u8::try_from(offset).ok()?;
-            Some([offset_byte, new[offset]])
-        });
-    Some(line('p', &pairs.collect::<Option<Vec<_>>>()?.concat()))
-}
-
 #[cfg(test)]
 mod tests {
     use super::*;
@@ -206,57 +264,86 @@ mod tests {
             .collect()
     }
 
-    /// Answers the answers to an input stream, read line by line as the format says.
-    fn replay(input: &str) -> String {
-        let (mut buffer, mut feature, mut answers) = (vec![], vec![], String::new());
-        for line in input.lines() {
-            let bytes = unhex(&line[1..]);
-            let answer = match &line[..1] {
-                "b" => {
-                    buffer = bytes;
-                    continue;
-                }
-                "f" => {
-                    feature = bytes;
-                    continue;
-                }
-                "p" => {
-                    bytes
-                        .chunks(2)
-                        .for_each(|pair| buffer[pair[0] as usize] = pair[1]);
-                    continue;
-                }
-                "d" => property::decode(&buffer)
-                    .map_or("broken".to_string(), |value| value.to_string()),
-                "r" => property::find(&property::properties(&buffer)).to_string(),
-                "s" => slice::check(&buffer, &feature, bytes[0])
-                    .map_or_else(|no| no as u8, |()| 0)
-                    .to_string(),
-                other => panic!("no command {other}"),
-            };
-            answers += &(answer + "\n");
-        }
-        answers
+    /// What the lines so far have made.
+    #[derive(Default)]
+    struct Reader {
+        buffer: Vec<u8>,
+        feature: Vec<u8>,
+        table: Vec<u8>,
+        before: Vec<u8>,
     }
 
-    /// The shorter of the two lines, none where nothing changed.
-    #[test]
-    fn lines_are_written_as_the_format_says() {
-        assert_eq!(buffer_line(&[1, 2], &[1, 2]), None);
-        assert_eq!(buffer_line(&[], &[1, 171]).unwrap(), "b01ab");
-        assert_eq!(buffer_line(&[1], &[]).unwrap(), "b");
-        assert_eq!(buffer_line(&[0; 4], &[0, 0, 9, 0]).unwrap(), "p0209");
-        assert_eq!(buffer_line(&[0; 2], &[9, 0]).unwrap(), "b0900");
-        let mut far = [0; 300];
-        far[256] = 1;
-        assert!(buffer_line(&[0; 300], &far).unwrap().starts_with('b'));
+    impl Reader {
+        /// Obeys a line that makes something; answers whether it was one.
+        fn make(&mut self, letter: &str, bytes: &[u8]) -> bool {
+            let place =
+                |at: &[u8]| usize::from(at[0]) << 16 | usize::from(at[1]) << 8 | usize::from(at[2]);
+            match letter {
+                "b" => self.buffer = bytes.to_vec(),
+                "f" => self.feature = bytes.to_vec(),
+                "p" => bytes
+                    .chunks(2)
+                    .for_each(|pair| self.buffer[pair[0] as usize] = pair[1]),
+                "t" => self.table = vec![bytes[3]; place(bytes)],
+                "w" => self.table[place(bytes)..][..bytes.len() - 3].copy_from_slice(&bytes[3..]),
+                "z" => self.table = self.before.clone(),
+                _ => return false,
+            }
+            true
+        }
+
+        /// Answers a line that asks.
+        fn answer(&mut self, letter: &str, bytes: &[u8]) -> String {
+            match letter {
+                "d" => property::decode(&self.buffer)
+                    .map_or("broken".to_string(), |value| value.to_string()),
+                "r" => property::find(&property::properties(&self.buffer)).to_string(),
+                "s" => number_of(slice::check(&self.buffer, &self.feature, bytes[0])).to_string(),
+                _ => self.answer_of_table(letter, bytes),
+            }
+        }
+
+        /// Answers a line that asks about the table.
+        fn answer_of_table(&mut self, letter: &str, bytes: &[u8]) -> String {
+            self.before = self.table.clone();
+            let answer = match letter {
+                "k" => {
+                    let sides = [Sides::Permanent, Sides::Temporary, Sides::Both];
+                    number_of(table::check(&self.table, sides[bytes[0] as usize])).to_string()
+                }
+                "m" => {
+                    let feature = self.feature.first_chunk().unwrap();
+                    table::create(&mut self.table, bytes[0], feature)
+                        .map_or_else(refused, |()| "made".to_string())
+                }
+                "a" => arrival::arrive(&mut self.table, &self.buffer)
+                    .map_or_else(refused, |arrival| arrival.to_string()),
+                other => panic!("no command {other}"),
+            };
+            answer + &changes(&self.before, &self.table)
+        }
+    }
+
+    /// Answers the answers to an input stream, read line by line as the format says.
+    fn replay(input: &str) -> String {
+        let mut reader = Reader::default();
+        let mut answers = String::new();
+        for line in input.lines() {
+            let (letter, digits) = line.split_at(1);
+            let bytes = unhex(digits);
+            if !reader.make(letter, &bytes) {
+                answers += &(reader.answer(letter, &bytes) + "\n");
+            }
+        }
+        answers
     }
 
     /// The stream alone leads to the same answers.
     #[test]
     fn the_stream_read_back_gives_the_answers() {
-        let script = all();
-        assert_eq!(replay(&script.input()), script.answers());
+        for script in [all(), random(1), random(2)] {
+            assert!(replay(&script.input()) == script.answers());
+        }
     }
 
     /// Two runs give the same bytes, within the sizes wanted.
@@ -264,23 +351,36 @@ mod tests {
     fn the_streams_are_the_same_each_time_and_small() {
         let (first, second) = (all(), all());
         assert!(first.input() == second.input() && first.answers() == second.answers());
-        assert!(first.input().len() <= 700_000);
-        assert!(first.answers().len() < 1_000_000);
-        assert!(first.input().is_ascii());
+        for script in (1..20).map(random).chain([first]) {
+            assert!(script.input().len() <= 1_572_864);
+            assert!(script.answers().len() <= 1_048_576);
+            assert!(script.input().is_ascii());
+        }
     }
 
-    /// A hundred asks or more for each answer of the slice check.
+    /// A hundred asks or more for each answer, and no other answer.
     #[test]
-    fn every_refusal_is_well_represented() {
+    fn every_answer_is_well_represented() {
         let script = all();
         let mut counts = BTreeMap::new();
-        for ask in script.asks().filter(|ask| ask.line.starts_with('s')) {
-            *counts.entry(ask.answer.as_str()).or_insert(0) += 1;
+        for ask in script.asks().filter(|ask| "smak".contains(&ask.line[..1])) {
+            let word = ask.answer.split(' ').next().unwrap();
+            *counts.entry((&ask.line[..1], word)).or_insert(0) += 1;
         }
-        for number in ["0", "9", "10", "11", "12", "13", "14", "15", "16"] {
-            assert!(counts[number] >= 100, "{number}: {:?}", counts.get(number));
+        let mut answers = 0;
+        for (letter, words) in [
+            ("s", "0 9 10 11 12 13 14 15 16"),
+            ("m", "made 1 2"),
+            ("k", "0 1 2 3 4 5 6 7"),
+            ("a", "added replaced superseded repeat 1 2 3 4 5 6 7"),
+            ("a", "9 10 11 12 13 14 15 16 17 18"),
+        ] {
+            for word in words.split(' ') {
+                assert!(counts[&(letter, word)] >= 100, "{letter}: {word}");
+                answers += 1;
+            }
         }
-        assert_eq!(counts.len(), 9);
+        assert_eq!(counts.len(), answers);
     }
 
     /// As many lines as answers.

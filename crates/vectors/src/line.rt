@@ -40,8 +40,10 @@ fn has_length(letter: u8, n: usize) -> bool {
         b'b' => (n % 2 == 1) & (n <= 1025),
         b'f' => (n % 2 == 1) & (n <= 129),
         b'p' => n % 4 == 1,
-        b'd' | b'r' => n == 1,
-        b's' => n == 3,
+        b't' => n == 9,
+        b'w' => (n % 2 == 1) & (7 <= n),
+        b'd' | b'r' | b'z' | b'a' => n == 1,
+        b's' | b'k' | b'm' => n == 3,
         _ => false,
     }
 }
@@ -72,4 +74,11 @@ pub fn pair(line: &[u8], i: usize) -> u8 {
     } else {
         0
     }
+}
+
+// The number of the first three pairs, the highest first.
+pub fn triple(line: &[u8]) -> usize {
+    let high = pair(line, 0) as usize;
+    let middle = pair(line, 1) as usize;
+    high * 65536 + middle * 256 + (pair(line, 2) as usize)
 }

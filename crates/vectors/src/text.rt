@@ -1,14 +1,17 @@
 // The text of an answer. Each function writes at a place of the bytes that it is lent, and answers the
 // place after what it wrote: the same place where there is no room.
+use octets::byte;
 use property::Decoded;
 use property::LengthUnit;
 use property::Position;
 use property::Survey;
 use property::Value;
 use slice::Checked;
+use table::Arrival;
+use table::Creation;
 
 // Writes a text.
-fn put(out: &mut [u8], at: usize, text: &[u8]) -> usize {
+pub fn put(out: &mut [u8], at: usize, text: &[u8]) -> usize {
     if out.len() < at {
         return at;
     }
@@ -19,11 +22,16 @@ fn put(out: &mut [u8], at: usize, text: &[u8]) -> usize {
     at + text.len()
 }
 
-// Writes a number in decimal, and ends the line.
-fn put_decimal(out: &mut [u8], at: usize, n: u64) -> usize {
+// Writes a number in decimal.
+fn put_digits(out: &mut [u8], at: usize, n: u64) -> usize {
     let mut digits = [0u8; 20];
     let k = io::decimal(n, &mut digits);
-    let a = put(out, at, &digits[..k]);
+    put(out, at, &digits[..k])
+}
+
+// Writes a number in decimal, and ends the line.
+fn put_decimal(out: &mut [u8], at: usize, n: u64) -> usize {
+    let a = put_digits(out, at, n);
     put(out, a, b"\n")
 }
 
@@ -136,4 +144,74 @@ pub fn put_eight(out: &mut [u8], at: usize, e: Survey) -> usize {
 // Writes the line of a slice's check: its number.
 pub fn put_checked(out: &mut [u8], at: usize, c: Checked) -> usize {
     put_decimal(out, at, slice::number_of(c) as u64)
+}
+
+// Writes what making a table answers.
+pub fn put_creation(out: &mut [u8], at: usize, c: Creation) -> usize {
+    match c {
+        Creation::Made => put(out, at, b"made"),
+        Creation::Refused(refusal) => put_digits(out, at, refusal.number as u64),
+    }
+}
+
+// Writes what an arrival answers.
+pub fn put_arrival(out: &mut [u8], at: usize, a: Arrival) -> usize {
+    match a {
+        Arrival::Added => put(out, at, b"added"),
+        Arrival::Replaced => put(out, at, b"replaced"),
+        Arrival::Superseded => put(out, at, b"superseded"),
+        Arrival::Repeat => put(out, at, b"repeat"),
+        Arrival::Refused(refusal) => put_digits(out, at, refusal.number as u64),
+    }
+}
+
+// Writes a byte as two hexadecimal digits.
+fn put_byte(out: &mut [u8], at: usize, byte: u8) -> usize {
+    let mut digits = [0u8; 16];
+    let k = io::hex(byte as u64, 2, &mut digits);
+    put(out, at, &digits[..k])
+}
+
+// Writes the place where a run of changed bytes starts.
+fn put_place(out: &mut [u8], at: usize, i: usize) -> usize {
+    let a = put(out, at, b" ");
+    let b = put_digits(out, a, i as u64);
+    put(out, b, b":")
+}
+
+// Whether byte i is not as it was.
+fn is_changed(old: &[u8], new: &[u8], i: usize) -> bool {
+    byte(old, i) != byte(new, i)
+}
+
+// Whether byte i has a byte before it that is not as it was.
+fn goes_on(old: &[u8], new: &[u8], i: usize) -> bool {
+    if i == 0 {
+        return false;
+    }
+    is_changed(old, new, i - 1)
+}
+
+// Writes what byte i adds to the changes: nothing where it is as it was, else its digits, and before
+// them its place where a run starts with it.
+fn put_change(out: &mut [u8], at: usize, old: &[u8], new: &[u8], i: usize) -> usize {
+    if !is_changed(old, new, i) {
+        return at;
+    }
+    if goes_on(old, new, i) {
+        return put_byte(out, at, byte(new, i));
+    }
+    let a = put_place(out, at, i);
+    put_byte(out, a, byte(new, i))
+}
+
+// Writes every run of bytes that are not as they were, each with its place, and ends the line.
+pub fn put_changes(out: &mut [u8], at: usize, old: &[u8], new: &[u8]) -> usize {
+    let mut a = at;
+    let mut i = 0;
+    while i < new.len() {
+        a = put_change(out, a, old, new, i);
+        i += 1;
+    }
+    put(out, a, b"\n")
 }

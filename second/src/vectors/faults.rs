@@ -114,11 +114,17 @@ impl Case {
 /// Adds every slice with faults.
 pub fn add(script: &mut Script) {
     script.title("slice: faults alone, in pairs, and all from a number on");
-    for (base, faults) in spoilable() {
-        for (case, _) in spoiled(&base, &faults) {
-            script.ask_slice(&case);
-        }
+    for (case, _) in spoiled_cases() {
+        script.ask_slice(&case);
     }
+}
+
+/// Answers every spoiled slice of every kind, with the number expected.
+pub fn spoiled_cases() -> Vec<(Case, u8)> {
+    spoilable()
+        .iter()
+        .flat_map(|(base, faults)| spoiled(base, faults))
+        .collect()
 }
 
 /// Answers the sound slices, each with the faults it can have, by rising number.

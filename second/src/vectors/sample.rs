@@ -1,8 +1,10 @@
 //! Sound parts, sound slices, and ways to change them.
 
 use crate::property::{PROPERTIES, PROPERTY_BYTES};
-use crate::record::{Correction, Head, Kind, Sequence, Span, HEAD_BYTES, NONE};
+use crate::record::{Correction, Head, Kind, Sequence, Side, Span, HEAD_BYTES, NONE, RECORD_BYTES};
+use crate::refusal::number_of;
 use crate::slice::{check, FEATURE_BYTES};
+use crate::table::HEADER_BYTES;
 
 /// The bytes of one property.
 pub type Part = [u8; PROPERTY_BYTES];
@@ -229,6 +231,23 @@ impl Case {
             .with_time(Time::LifeEnd, life_end)
     }
 
+    /// Answers the case with another sequence number.
+    pub fn with_sequence(mut self, sequence: u32) -> Case {
+        self.slice[RECORD + 4..RECORD + 8].copy_from_slice(&sequence.to_be_bytes());
+        self
+    }
+
+    /// Answers the case with another correction number.
+    pub fn with_correction(mut self, correction: u16) -> Case {
+        self.slice[RECORD + 2..RECORD + 4].copy_from_slice(&correction.to_be_bytes());
+        self
+    }
+
+    /// Answers the record of the slice.
+    pub fn record(&self) -> Vec<u8> {
+        self.slice[RECORD..].to_vec()
+    }
+
     /// Answers the case with one property replaced.
     pub fn with_part(mut self, index: usize, part: &Part) -> Case {
         let start = PARTS + index * PROPERTY_BYTES;
@@ -257,8 +276,33 @@ impl Case {
 
     /// Answers the number of the slice check, 0 where the slice is sound.
     pub fn number(&self) -> u8 {
-        check(&self.slice, &self.feature, self.side).map_or_else(|refusal| refusal as u8, |()| 0)
+        number_of(check(&self.slice, &self.feature, self.side))
     }
+}
+
+/// Makes a table of a side that counts the records it is given, filled up to a length.
+pub fn table(side: Side, records: &[Vec<u8>], length: usize, fill: u8) -> Vec<u8> {
+    let head = [b'T', b'S', b'L', side.byte(), 0, 1];
+    let count = (records.len() as u16).to_be_bytes();
+    let mut bytes = [&head[..], &count, &FEATURE, &[0; 8], &records.concat()].concat();
+    bytes.resize(length, fill);
+    bytes
+}
+
+/// Makes a usual case of each key, in the order given.
+pub fn cases(keys: &[(Kind, u32)]) -> Vec<Case> {
+    keys.iter()
+        .map(|&(kind, sequence)| Case::usual(kind).with_sequence(sequence))
+        .collect()
+}
+
+/// Makes a table of the records of some cases, with so many bytes behind them.
+pub fn table_of(cases: &[Case], rest: usize, fill: u8) -> Vec<u8> {
+    let side = cases.first().map_or(0, |case| case.side);
+    let side = Side::of(side).expect("cases are of a side");
+    let records: Vec<_> = cases.iter().map(Case::record).collect();
+    let length = HEADER_BYTES + RECORD_BYTES * records.len() + rest;
+    table(side, &records, length, fill)
 }
 
 /// Makes the sound slices: for each kind the usual and the rarer.

@@ -1,10 +1,10 @@
--- `vectors::patch` is safe and ends. The loop's invariant: s keeps its length. Assumes nothing.
+-- `vectors::lent::patch` is safe and ends. The loop's invariant: s keeps its length. Assumes nothing.
 use Prim.Native.Nat.{_-_}
 use mathlib.Core.Path.{_≡_}
 use lib.ListN.{length}
 use borrow.Author.Needs.{needs}
-use Rattle.vectors.proofs.patch.Statement.{statement}
-use Rattle.vectors.proofs.patch.Tie as tie
+use Rattle.vectors.proofs.lent.patch.Statement.{statement}
+use Rattle.vectors.proofs.lent.patch.Tie as tie
 
 abbrev Inv-loop : tie.InvT-loop
 Inv-loop s₀ line n i₀ s i = length s ≡ length s₀

@@ -1,0 +1,152 @@
+//! Rounds of random, edge and damaged calls, put to whoever plays them.
+
+use crate::random::Random;
+use crate::record::{Side, RECORD_BYTES};
+use crate::supply;
+use crate::table::{Feature, HEADER_BYTES};
+use crate::vectors::sample::FEATURE;
+
+/// A call to a table.
+pub enum Call<'a> {
+    Create { side: u8, feature: &'a Feature },
+    Arrive { slice: &'a [u8] },
+}
+
+/// Who a call is put to.
+pub trait Player {
+    type Fault;
+
+    /// Takes a call; the table becomes what it is after it. A fault ends the round.
+    fn call(&mut self, table: &mut Vec<u8>, call: &Call) -> Result<(), Self::Fault>;
+}
+
+/// A round under way.
+struct Round<'a, P: Player> {
+    player: &'a mut P,
+    random: Random,
+    most: usize,
+}
+
+/// Plays one round of every sort of call, at tables of at most so many records, 40 or more.
+pub fn round<P: Player>(player: &mut P, seed: u64, most: usize) -> Result<(), P::Fault> {
+    let mut round = Round {
+        player,
+        random: Random::new(seed),
+        most,
+    };
+    round.creations()?;
+    round.lone_arrivals()?;
+    round.damaged_bytes()?;
+    round.delivery()
+}
+
+impl<P: Player> Round<'_, P> {
+    /// Plays the arrival of a slice.
+    fn arrive(&mut self, table: &mut Vec<u8>, slice: &[u8]) -> Result<(), P::Fault> {
+        self.player.call(table, &Call::Arrive { slice })
+    }
+
+    /// Plays a new table of any side.
+    fn create(&mut self, table: &mut Vec<u8>, side: u8, feature: &Feature) -> Result<(), P::Fault> {
+        self.player.call(table, &Call::Create { side, feature })
+    }
+
+    /// Plays new tables in places of any length, filled with anything.
+    fn creations(&mut self) -> Result<(), P::Fault> {
+        let full = HEADER_BYTES + self.most * RECORD_BYTES;
+        for length in (0..40).chain([255, 256, 1000, full, full + 3000]) {
+            let mut table = vec![0; length];
+            self.random.fill(&mut table);
+            let mut feature = FEATURE;
+            self.random.fill(&mut feature);
+            for side in [0, 1, 2, self.random.byte()] {
+                self.create(&mut table, side, &feature)?;
+            }
+        }
+        Ok(())
+    }
+
+    /// Answers one side or the other.
+    fn side(&mut self) -> Side {
+        self.random.pick(&[Side::Permanent, Side::Temporary])
+    }
+
+    /// Plays arrivals at sound tables of any size, at the tables that come out, and at spoiled ones.
+    fn lone_arrivals(&mut self) -> Result<(), P::Fault> {
+        for _ in 0..100 {
+            let side = self.side();
+            let count = self.random.pick(&[0, 1, 2, 3, 4, 5, 8, 13]);
+            let rest = self.random.pick(&[0, 0, 1, 100, 223, 224, 447, 448, 1000]);
+            let table = supply::table(&mut self.random, side, count, rest);
+            self.some_arrivals(table)?;
+        }
+        let side = self.side();
+        let rests = [(0, 0), (0, 300), (1, 0), (1, 224)];
+        let (less, rest) = self.random.pick(&rests);
+        let table = supply::table(&mut self.random, side, self.most - less, rest);
+        self.some_arrivals(table)
+    }
+
+    /// Plays three arrivals one after the other, and two at a spoiled table, of damaged slices too.
+    fn some_arrivals(&mut self, mut table: Vec<u8>) -> Result<(), P::Fault> {
+        for _ in 0..3 {
+            let slice = supply::slice_for(&mut self.random, &table);
+            self.arrive(&mut table, &slice)?;
+        }
+        for _ in 0..2 {
+            let mut slice = supply::slice_for(&mut self.random, &table);
+            if self.random.below(2) == 0 {
+                supply::damage(&mut self.random, &mut slice);
+            }
+            self.arrive(&mut table.clone(), &slice)?;
+            supply::spoil(&mut self.random, &mut table);
+            self.arrive(&mut table, &slice)?;
+        }
+        Ok(())
+    }
+
+    /// Plays a small table with each of its bytes damaged, and slices with each of theirs.
+    fn damaged_bytes(&mut self) -> Result<(), P::Fault> {
+        let side = self.side();
+        let (count, rest) = (1 + self.random.below(3), self.random.below(250));
+        let table = supply::table(&mut self.random, side, count, rest);
+        let slice = supply::slice_for(&mut self.random, &table);
+        for offset in 0..table.len() {
+            for bits in [1, 0x80, self.random.byte()] {
+                let mut damaged = table.clone();
+                damaged[offset] ^= bits;
+                self.arrive(&mut damaged, &slice)?;
+            }
+        }
+        for offset in 0..slice.len() {
+            for bits in [1, 0x80, self.random.byte()] {
+                let mut damaged = slice.clone();
+                damaged[offset] ^= bits;
+                self.arrive(&mut table.clone(), &damaged)?;
+            }
+        }
+        Ok(())
+    }
+
+    /// Plays a whole delivery of many keys to a new table, damaged now and then.
+    fn delivery(&mut self) -> Result<(), P::Fault> {
+        let (side, most) = (self.side(), self.most);
+        let size = self.random.pick(&[4, 16, 40, most]);
+        let keys = 1 + self.random.below(size);
+        let room = self
+            .random
+            .pick(&[keys, keys / 2, keys + 1, most, most + 1]);
+        let mut table = vec![0; HEADER_BYTES + room * RECORD_BYTES + self.random.below(224)];
+        self.random.fill(&mut table);
+        self.create(&mut table, side.byte(), &FEATURE)?;
+        for slice in supply::delivery(&mut self.random, side, keys) {
+            self.arrive(&mut table, &slice)?;
+            if self.random.below(10) == 0 {
+                let mut spoiled = table.clone();
+                supply::spoil(&mut self.random, &mut spoiled);
+                self.arrive(&mut spoiled, &slice)?;
+            }
+        }
+        Ok(())
+    }
+}

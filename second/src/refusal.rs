@@ -1,0 +1,44 @@
+//! What a call is refused for.
+
+/// A refusal, with the paper's number.
+#[derive(Clone, Copy, Debug, PartialEq)]
+pub enum Refusal {
+    Short = 1,
+    Name = 2,
+    Version = 3,
+    Header = 4,
+    Count = 5,
+    Record = 6,
+    Order = 7,
+    Length = 9,
+    Feature = 10,
+    Kind = 11,
+    Spare = 12,
+    Cancelled = 13,
+    Layout = 14,
+    Times = 15,
+    Content = 16,
+    Clash = 17,
+    Full = 18,
+}
+
+impl Refusal {
+    /// Answers the paper's number.
+    pub fn number(self) -> u8 {
+        self as u8
+    }
+}
+
+/// Answers the refusal where its rule does not hold.
+pub fn hold(rule: bool, refusal: Refusal) -> Result<(), Refusal> {
+    if rule {
+        Ok(())
+    } else {
+        Err(refusal)
+    }
+}
+
+/// Answers the number of a check, 0 where nothing is refused.
+pub fn number_of(check: Result<(), Refusal>) -> u8 {
+    check.map_or_else(Refusal::number, |()| 0)
+}

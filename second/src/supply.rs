@@ -1,0 +1,242 @@
+//! Random supplies: sound slices, sound tables, deliveries of many slices, and damage to all of them.
+
+use crate::random::Random;
+use crate::record::{Kind, Side, NONE, RECORD_BYTES};
+use crate::table::HEADER_BYTES;
+use crate::vectors::sample::{self, Area, Case, FEATURE, RECORD};
+use std::collections::BTreeSet;
+
+/// A kind with a sequence number.
+pub type Key = (Kind, u32);
+
+/// Sequence numbers at the ends and about each change of length.
+pub const EDGES: [u32; 12] = [
+    0,
+    1,
+    255,
+    256,
+    65_535,
+    65_536,
+    0x00ff_ffff,
+    0x0100_0000,
+    0x7fff_ffff,
+    0x8000_0000,
+    NONE - 1,
+    NONE,
+];
+
+/// Answers the kinds of a side.
+pub fn kinds(side: Side) -> &'static [Kind] {
+    match side {
+        Side::Permanent => &[Kind::Baseline, Kind::PermDelta],
+        Side::Temporary => &[Kind::TempDelta],
+    }
+}
+
+/// Makes a sound slice of a key and a correction; one in six is cancelled.
+pub fn slice(random: &mut Random, (kind, sequence): Key, correction: u16) -> Vec<u8> {
+    let case = if random.below(6) == 0 {
+        Case::cancelled(kind)
+    } else {
+        uncancelled(random, kind)
+    };
+    case.with_sequence(sequence)
+        .with_correction(correction)
+        .slice
+}
+
+/// Makes a sound uncancelled slice of a kind, with any times and parts.
+fn uncancelled(random: &mut Random, kind: Kind) -> Case {
+    let begin = random.pick(&[0, 1, 100, 150, 1_000_000, NONE - 2]);
+    let end = random.pick(&[NONE, NONE - 1, begin + 1]);
+    let times = match kind {
+        Kind::Baseline => [begin, end, random.pick(&[NONE, 0, begin]), NONE],
+        Kind::TempDelta => [begin, end, NONE, NONE],
+        Kind::PermDelta => {
+            let [life_begin, life_end] = random.pick(&[[NONE, NONE], [begin, NONE], [NONE, begin]]);
+            [begin, NONE, life_begin, life_end]
+        }
+    };
+    Case::any(kind)
+        .with_times(times)
+        .with_parts(&parts(random, kind))
+}
+
+/// Makes eight sound parts, enough of them mentioned for the kind.
+fn parts(random: &mut Random, kind: Kind) -> Area {
+    let sound = sample::sound_parts();
+    let (mut area, sure) = (sample::mentions(), random.below(8));
+    for (index, part) in area.iter_mut().enumerate() {
+        if random.below(2) == 0 && kind != Kind::Baseline && index != sure {
+            *part = sample::unmentioned();
+        } else if random.below(2) == 0 {
+            *part = random.pick(&sound[1..]);
+        }
+    }
+    area
+}
+
+/// Answers so many different keys of a side, rising: close together, at the edges, or anywhere.
+pub fn keys(random: &mut Random, side: Side, count: usize) -> Vec<Key> {
+    let mut found = BTreeSet::new();
+    while found.len() < count {
+        let kind = random.pick(kinds(side));
+        let sequence = match random.below(4) {
+            0 => random.pick(&EDGES),
+            1 => random.bits() as u32,
+            _ => random.below(2 * count + 2) as u32,
+        };
+        found.insert((kind.byte(), sequence));
+    }
+    let kind = |byte| Kind::of(byte).expect("only kinds are put in");
+    found
+        .iter()
+        .map(|&(byte, sequence)| (kind(byte), sequence))
+        .collect()
+}
+
+/// Makes a sound table of a side that counts so many records, some bytes behind them.
+pub fn table(random: &mut Random, side: Side, count: usize, rest: usize) -> Vec<u8> {
+    let mut records = vec![];
+    for key in keys(random, side, count) {
+        let correction = random.pick(&[0, 1, 2, 255, 256, 65_534, 65_535]);
+        records.push(slice(random, key, correction)[RECORD..].to_vec());
+    }
+    let length = HEADER_BYTES + count * RECORD_BYTES + rest;
+    sample::table(side, &records, length, random.byte())
+}
+
+/// Makes a delivery of so many keys: up to three corrections each, repeats and damage among them.
+pub fn delivery(random: &mut Random, side: Side, count: usize) -> Vec<Vec<u8>> {
+    let mut slices = vec![];
+    for key in keys(random, side, count) {
+        let first = random.pick(&[0, 0, 1, 255, 65_533]);
+        for correction in 0..=random.below(3) as u16 {
+            slices.push(slice(random, key, first + correction));
+        }
+    }
+    for _ in 0..slices.len() / 3 {
+        let mut again = slices[random.below(slices.len())].clone();
+        if random.below(2) == 0 {
+            damage(random, &mut again);
+        }
+        slices.push(again);
+    }
+    shuffle(random, &mut slices);
+    slices
+}
+
+/// Puts things into another order.
+pub fn shuffle<T>(random: &mut Random, things: &mut [T]) {
+    for last in (1..things.len()).rev() {
+        things.swap(last, random.below(last + 1));
+    }
+}
+
+/// Damages bytes: a bit or a few turned over, a byte set, a property blanked, or a length changed.
+pub fn damage(random: &mut Random, bytes: &mut Vec<u8>) {
+    let length = bytes.len();
+    match random.below(9) {
+        0 => bytes.resize((length + random.below(3)).saturating_sub(1), 0),
+        1 => bytes.truncate(random.below(length + 1)),
+        2 if length > 0 => bytes[random.below(length)] = random.byte(),
+        3 if length >= 48 => random.flip(&mut bytes[16..48], 1),
+        4 if length >= 240 => bytes[48 + 24 * random.below(8)..][..24].fill(0),
+        _ if length > 0 => {
+            let flips = 1 + random.below(3);
+            random.flip(bytes, flips);
+        }
+        _ => {}
+    }
+}
+
+/// Damages a table in the way that one rule or another forbids.
+pub fn spoil(random: &mut Random, table: &mut Vec<u8>) {
+    let length = table.len();
+    if length < HEADER_BYTES {
+        return damage(random, table);
+    }
+    match random.below(6) {
+        0 => random.flip(&mut table[..8], 1),
+        1 => random.flip(&mut table[24..32], 1),
+        2 => table[6..8].copy_from_slice(&random.pick(&[[0, 1], [1, 0], [1, 1], [255, 255]])),
+        3 => swap_records(random, table),
+        4 => table.truncate(length - random.below(length.min(300))),
+        _ => damage(random, table),
+    }
+}
+
+/// Swaps two of a table's records, or writes one over another.
+fn swap_records(random: &mut Random, table: &mut [u8]) {
+    let (records, _) = table[HEADER_BYTES..].as_chunks_mut::<RECORD_BYTES>();
+    if records.is_empty() {
+        return;
+    }
+    let (one, other) = (random.below(records.len()), random.below(records.len()));
+    if random.below(2) == 0 {
+        records.swap(one, other);
+    } else {
+        records[one] = records[other];
+    }
+}
+
+/// Makes a slice for a table: of a stored key or one beside it, mostly sound.
+pub fn slice_for(random: &mut Random, table: &[u8]) -> Vec<u8> {
+    let (records, _) = table
+        .get(HEADER_BYTES..)
+        .unwrap_or(&[])
+        .as_chunks::<RECORD_BYTES>();
+    let count = records.len().min(256);
+    if count == 0 || random.below(8) == 0 {
+        let key = (random.pick(&Kind::ALL), random.pick(&EDGES));
+        return slice(random, key, 0);
+    }
+    let stored = records[random.below(count)];
+    let mut slice = [&FEATURE[..], &stored].concat();
+    let sequence = u32::from_be_bytes([stored[4], stored[5], stored[6], stored[7]]);
+    let correction = u16::from_be_bytes([stored[2], stored[3]]);
+    let change = |by: [u16; 3], random: &mut Random| correction.wrapping_add(random.pick(&by));
+    let kind = Kind::of(stored[0]).unwrap_or(Kind::Baseline);
+    match random.below(6) {
+        0 => {}
+        1 => slice[18..20].copy_from_slice(&change([1, 2, 65_535], random).to_be_bytes()),
+        2 => slice[20..24].copy_from_slice(&(sequence.wrapping_add(1)).to_be_bytes()),
+        3 => slice[20..24].copy_from_slice(&(sequence.wrapping_sub(1)).to_be_bytes()),
+        _ => {
+            let correction = change([0, 1, 65_535], random);
+            slice = self::slice(random, (kind, sequence), correction);
+        }
+    }
+    slice
+}
+
+#[cfg(test)]
+mod tests {
+    use super::*;
+    use crate::table::{check, Sides, Table};
+
+    /// Sound tables of every count that is asked for.
+    #[test]
+    fn tables_are_sound() {
+        let mut random = Random::new(3);
+        for side in [Side::Permanent, Side::Temporary] {
+            for count in [0, 1, 2, 7, 256] {
+                let bytes = table(&mut random, side, count, 100);
+                let table = Table::read(&bytes, Sides::Both).unwrap();
+                assert_eq!((table.side, table.records.len()), (side, count));
+            }
+        }
+    }
+
+    /// Damage is damage more often than not.
+    #[test]
+    fn spoiled_tables_are_mostly_refused() {
+        let mut random = Random::new(4);
+        let refused = (0..200).filter(|_| {
+            let mut bytes = table(&mut random, Side::Permanent, 3, 0);
+            spoil(&mut random, &mut bytes);
+            check(&bytes, Sides::Both).is_err()
+        });
+        assert!(refused.count() > 100);
+    }
+}

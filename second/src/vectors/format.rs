@@ -1,0 +1,152 @@
+//! The lines of the input stream, and the changed bytes of an answer.
+
+use std::ops::Range;
+
+/// The longest buffer the format allows.
+pub const BUFFER_BYTES: usize = 512;
+
+/// The longest feature the format allows.
+pub const FEATURE_BYTES: usize = 64;
+
+/// The longest table the format allows.
+pub const TABLE_BYTES: usize = 65_536;
+
+/// Answers the pairs of hex digits of some bytes.
+fn digits(bytes: &[u8]) -> String {
+    bytes.iter().map(|byte| format!("{byte:02x}")).collect()
+}
+
+/// Answers the line of a command letter and its bytes.
+pub fn line(letter: char, bytes: &[u8]) -> String {
+    format!("{letter}{}", digits(bytes))
+}
+
+/// Answers the shortest line that makes one buffer another, if they differ.
+pub fn buffer_line(old: &[u8], new: &[u8]) -> Option<String> {
+    if old == new {
+        return None;
+    }
+    let whole = line('b', new);
+    let patch = patch_line(old, new).filter(|patch| patch.len() < whole.len());
+    Some(patch.unwrap_or(whole))
+}
+
+/// Answers the line that sets each byte in which two buffers differ, where that can be written.
+fn patch_line(old: &[u8], new: &[u8]) -> Option<String> {
+    if old.len() != new.len() {
+        return None;
+    }
+    let pairs = (0..new.len())
+        .filter(|&offset| old[offset] != new[offset])
+        .map(|offset| {
+            let offset_byte = u8::try_from(offset).ok()?;
+            Some([offset_byte, new[offset]])
+        });
+    Some(line('p', &pairs.collect::<Option<Vec<_>>>()?.concat()))
+}
+
+/// Answers the runs in which two places of one length differ, joined over so many equal bytes.
+fn runs(old: &[u8], new: &[u8], joined: usize) -> Vec<Range<usize>> {
+    let mut runs: Vec<Range<usize>> = vec![];
+    for offset in (0..new.len()).filter(|&offset| old[offset] != new[offset]) {
+        match runs.last_mut() {
+            Some(run) if offset <= run.end + joined => run.end = offset + 1,
+            _ => runs.push(offset..offset + 1),
+        }
+    }
+    runs
+}
+
+/// Answers what a call changed: each run of changed bytes, with its offset.
+pub fn changes(old: &[u8], new: &[u8]) -> String {
+    runs(old, new, 0)
+        .into_iter()
+        .map(|run| format!(" {}:{}", run.start, digits(&new[run.clone()])))
+        .collect()
+}
+
+/// Answers a number below 2^24 as three bytes.
+fn three(number: usize) -> [u8; 3] {
+    let [.., a, b, c] = number.to_be_bytes();
+    [a, b, c]
+}
+
+/// Answers the lines that make one table another of its length.
+fn write_lines(old: &[u8], new: &[u8]) -> Vec<String> {
+    runs(old, new, 3)
+        .into_iter()
+        .map(|run| line('w', &[&three(run.start), &new[run]].concat()))
+        .collect()
+}
+
+/// Answers the lines that make a table out of nothing, filled with a byte first.
+pub fn fill_lines(new: &[u8], fill: u8) -> Vec<String> {
+    let [a, b, c] = three(new.len());
+    let filled = vec![fill; new.len()];
+    [vec![line('t', &[a, b, c, fill])], write_lines(&filled, new)].concat()
+}
+
+/// Answers how many bytes lines have.
+fn size(lines: &[String]) -> usize {
+    lines.iter().map(|line| line.len() + 1).sum()
+}
+
+/// Answers the shortest lines that make a table another; the table before the last ask is at hand.
+pub fn table_lines(table: &[u8], before: &[u8], new: &[u8]) -> Vec<String> {
+    let mut ways = vec![];
+    if table.len() == new.len() {
+        ways.push(write_lines(table, new));
+    }
+    if before.len() == new.len() {
+        ways.push([vec!["z".to_string()], write_lines(before, new)].concat());
+    }
+    if ways.iter().all(|way| size(way) > 40) {
+        let last = new.last().copied().unwrap_or(0);
+        ways.extend([0, last].map(|fill| fill_lines(new, fill)));
+    }
+    ways.into_iter()
+        .min_by_key(|way| size(way))
+        .expect("there is always a way")
+}
+
+#[cfg(test)]
+mod tests {
+    use super::*;
+
+    /// The shorter of the two lines, none where nothing changed.
+    #[test]
+    fn lines_are_written_as_the_format_says() {
+        assert_eq!(buffer_line(&[1, 2], &[1, 2]), None);
+        assert_eq!(buffer_line(&[], &[1, 171]).unwrap(), "b01ab");
+        assert_eq!(buffer_line(&[1], &[]).unwrap(), "b");
+        assert_eq!(buffer_line(&[0; 4], &[0, 0, 9, 0]).unwrap(), "p0209");
+        assert_eq!(buffer_line(&[0; 2], &[9, 0]).unwrap(), "b0900");
+        let mut far = [0; 300];
+        far[256] = 1;
+        assert!(buffer_line(&[0; 300], &far).unwrap().starts_with('b'));
+    }
+
+    /// Nothing where nothing changed, a part written, the table before, or a new one.
+    #[test]
+    fn tables_are_changed_by_the_shortest_lines() {
+        let nothing: [&str; 0] = [];
+        assert_eq!(table_lines(&[1; 4], &[], &[1; 4]), nothing);
+        assert_eq!(table_lines(&[0; 300], &[], &[5; 300]), ["t00012c05"]);
+        let mut table = [0; 300];
+        table[256..259].copy_from_slice(&[1, 0, 2]);
+        assert_eq!(table_lines(&[0; 300], &[], &table), ["w000100010002"]);
+        assert_eq!(table_lines(&table, &[0; 300], &[0; 300]), ["z"]);
+        assert_eq!(
+            table_lines(&[7; 300], &[0; 300], &table),
+            ["z", "w000100010002"]
+        );
+        assert_eq!(table_lines(&[7; 9], &[1], &[]), ["t00000000"]);
+    }
+
+    /// Runs end where a byte stayed.
+    #[test]
+    fn changes_are_told_run_by_run() {
+        assert_eq!(changes(&[1, 2, 3], &[1, 2, 3]), "");
+        assert_eq!(changes(&[0; 5], &[9, 10, 0, 0, 255]), " 0:090a 4:ff");
+    }
+}
