@@ -10,8 +10,8 @@ use lib.Seq.{ext-getD, getD-drop}
 use lib.Dec.{leb, ltb, eqb}
 use borrow.Author.Tests.{le-leb, eq-eqb, leb-true, eqb-true, eqb-false}
 use Rattle.laws.proofs.Tests.{tests, iff, and-assoc, and-both, and-true, and-false}
-use Rattle.octets.specs.Bytes.{byteOf, digits, each, there, beOf, leOf, filled, sameBytes}
-use Rattle.octets.proofs.Readers.{be-whole, le-whole}
+use Rattle.octets.specs.Bytes.{byteOf, digits, each, there, leOf, filled, sameBytes}
+use Rattle.octets.proofs.Readers.{le-whole}
 
 -- what the elements of a list of bytes are
 abbrev pub Bytes : List ℕ → Type 0
@@ -86,20 +86,6 @@ same-digits f g hf hg zero at = refl
 same-digits f g hf hg (suc n) at =
     two-digits (digits f n at) (digits g n at) (f (at + n)) (g (at + n)) (hf (at + n)) (hg (at + n))
     ∙ rw (same-digits f g hf hg n at)
-
--- ---- runs told by one number
-module _ (n : ℕ) (s : List ℕ) (at : ℕ) (bytes : Bytes s) (h : at + n ≤ length s) where
-  -- each byte is v
-  pub word-is : (v : ℕ) → v < 256 → each (λ i. eqb (byteOf s i) v) n at ≡ eqb (beOf n s at) (digits (λ _. v) n at)
-  word-is v small = rw (be-whole n s at h) (sym (same-digits (byteOf s) (λ _. v) bytes (λ _. small) n at))
-
--- n bytes that were found to be there, and whose number is r
-pub filled-word : (v : ℕ) → v < 256 → (n : ℕ) (s : List ℕ) (at : ℕ) → Bytes s → (all : Bool) → all ≡ there n s at → all ≡ true
-    → (r : ℕ) → r ≡ beOf n s at → eqb r (digits (λ _. v) n at) ≡ filled v n s at
-unfolding filled
-filled-word v small n s at bytes all told held r is =
-    let h : there n s at ≡ true = sym told ∙ held in
-    rw (is, h) (sym (word-is n s at bytes (leb-true _ _ h) v small))
 
 -- ---- eight bytes told by one number, the lowest byte first
 -- n places from k behind `at` on, the last of them, m behind it, first

@@ -1,19 +1,19 @@
 -- Whether 24 bytes keep the layout, told by their first two bytes as one number. Assumes nothing.
-use Prim.Native.Nat.{ℕ, zero, suc, _+_, _*_, _≤_, _<_}
+use Prim.Native.Nat.{ℕ, zero, suc, _+_, _*_, _<_}
 use mathlib.Core.Path.{_≡_, refl, sym, _∙_, ap}
 use mathlib.Core.List.{List}
-use mathlib.Core.Bool.{Bool, true, false, cond, not, _&&_, _||_}
+use mathlib.Core.Bool.{Bool, true, false, cond, not, _&&_, _||_, or-false}
 use native.Mathlib.Omega.{arith}
 use lib.ListN.{length}
 use lib.Dec.{eqb, leb}
 use lib.Ieee.{Float, binary64, ofBits, ofInt, neg, le}
-use borrow.Author.Tests.{eqb-true, eqb-false, eq-eqb, ne-eqb, leb-true, le-leb, lt-leb}
+use borrow.Author.Tests.{not-false, eqb-true, eqb-false, eq-eqb, ne-eqb, leb-true, le-leb, lt-leb}
 use Rattle.laws.proofs.Tests.{tests, iff, by-test, never, contrary, and-both, and-assoc, and-true, and-false}
 use Rattle.octets.specs.Bytes.{byteOf, beOf, filled}
 use Rattle.octets.proofs.Readers.{be-whole}
 use Rattle.octets.proofs.Runs.{two-digits, filled-join}
 use Rattle.property.specs.Value.{mentions}
-use Rattle.property.specs.Layout.{detailOf, unused, doubleAt, finite, degrees, only, withDetail, nils, inUnits, unmentionedOf, nilOf, codeOf, numberOf, lengthOf, pointOf, formReading, decodeOf}
+use Rattle.property.specs.Layout.{unused, doubleAt, finite, degrees, only, withDetail, nils, inUnits, unmentionedOf, nilOf, codeOf, numberOf, lengthOf, pointOf, formReading, decodeOf}
 use Rattle.property.specs.Eight.{isGood, isBroken}
 use Rattle.property.specs.declared.Value.{Value}
 use Rattle.property.specs.declared.Value.the-variants.{Unmentioned}
@@ -63,40 +63,16 @@ and-swap true b true = and-true b
 and-swap true b false = and-false b
 and-swap false b c = refl
 
-at-1 : (b : Bool) → b ≡ ((b || (false || (false || false))) || false)
-at-1 true = refl
-at-1 false = refl
-
-at-2 : (b : Bool) → b ≡ ((false || (b || (false || false))) || false)
-at-2 true = refl
-at-2 false = refl
-
-at-3 : (b : Bool) → b ≡ ((false || (false || (b || false))) || false)
-at-3 true = refl
-at-3 false = refl
-
-at-4 : (b : Bool) → b ≡ ((false || (false || (false || b))) || false)
-at-4 true = refl
-at-4 false = refl
-
-at-5 : (b : Bool) → b ≡ ((false || (false || (false || false))) || b)
-at-5 true = refl
-at-5 false = refl
-
-unnot : (b : Bool) → not b ≡ false → b ≡ true
-unnot true x = refl
-unnot false x = sym x
-
 -- ---- one of five, or of none
 choose : (f : ℕ) (u : Bool) (x0 x1 x2 x3 x4 x5 : Decoded)
     → (isGood (only u (cond (eqb f 0) x0 (cond (eqb f 1) x1 (cond (eqb f 2) x2 (cond (eqb f 3) x3 (cond (eqb f 4) x4 (cond (eqb f 5) x5 Broken))))))) && not (eqb f 0))
     ≡ (u && (((eqb f 1 && isGood x1) || ((eqb f 2 && isGood x2) || ((eqb f 3 && isGood x3) || (eqb f 4 && isGood x4)))) || (eqb f 5 && isGood x5)))
 choose zero u x0 x1 x2 x3 x4 x5 = and-false (isGood (only u x0)) ∙ sym (and-false u)
-choose (suc zero) u x0 x1 x2 x3 x4 x5 = and-true _ ∙ good-both u x1 ∙ ap (λ (b : Bool). u && b) (at-1 (isGood x1))
-choose (suc (suc zero)) u x0 x1 x2 x3 x4 x5 = and-true _ ∙ good-both u x2 ∙ ap (λ (b : Bool). u && b) (at-2 (isGood x2))
-choose (suc (suc (suc zero))) u x0 x1 x2 x3 x4 x5 = and-true _ ∙ good-both u x3 ∙ ap (λ (b : Bool). u && b) (at-3 (isGood x3))
-choose (suc (suc (suc (suc zero)))) u x0 x1 x2 x3 x4 x5 = and-true _ ∙ good-both u x4 ∙ ap (λ (b : Bool). u && b) (at-4 (isGood x4))
-choose (suc (suc (suc (suc (suc zero))))) u x0 x1 x2 x3 x4 x5 = and-true _ ∙ good-both u x5 ∙ ap (λ (b : Bool). u && b) (at-5 (isGood x5))
+choose (suc zero) u x0 x1 x2 x3 x4 x5 = and-true _ ∙ good-both u x1 ∙ ap (λ (b : Bool). u && b) (sym (or-false (isGood x1 || false) ∙ or-false (isGood x1)))
+choose (suc (suc zero)) u x0 x1 x2 x3 x4 x5 = and-true _ ∙ good-both u x2 ∙ ap (λ (b : Bool). u && b) (sym (or-false (isGood x2 || false) ∙ or-false (isGood x2)))
+choose (suc (suc (suc zero))) u x0 x1 x2 x3 x4 x5 = and-true _ ∙ good-both u x3 ∙ ap (λ (b : Bool). u && b) (sym (or-false (isGood x3 || false) ∙ or-false (isGood x3)))
+choose (suc (suc (suc (suc zero)))) u x0 x1 x2 x3 x4 x5 = and-true _ ∙ good-both u x4 ∙ ap (λ (b : Bool). u && b) (sym (or-false (isGood x4)))
+choose (suc (suc (suc (suc (suc zero))))) u x0 x1 x2 x3 x4 x5 = and-true _ ∙ good-both u x5
 choose (suc (suc (suc (suc (suc (suc f)))))) u x0 x1 x2 x3 x4 x5 = rw (ne-eqb (suc (suc (suc (suc (suc (suc f)))))) 0 (λ e. omega (arith, e)), ne-eqb (suc (suc (suc (suc (suc (suc f)))))) 1 (λ e. omega (arith, e)), ne-eqb (suc (suc (suc (suc (suc (suc f)))))) 2 (λ e. omega (arith, e)), ne-eqb (suc (suc (suc (suc (suc (suc f)))))) 3 (λ e. omega (arith, e)), ne-eqb (suc (suc (suc (suc (suc (suc f)))))) 4 (λ e. omega (arith, e)), ne-eqb (suc (suc (suc (suc (suc (suc f)))))) 5 (λ e. omega (arith, e))) (and-true _ ∙ good-both u Broken)
 
 -- a test that settles it early, and what is left where it does not
@@ -222,7 +198,7 @@ module _ (p : List ℕ) (h : length p ≡ 24) where
   pub silent-told : isGood (decodeOf p) ≡ true → mentions (byteOf p 0) ≡ false → (filled 0 8 p 0 && filled 0 16 p 8) ≡ true
   unfolding decodeOf formReading unmentionedOf
   silent-told e s =
-      let f : eqb (byteOf p 0) 0 ≡ true = unnot (eqb (byteOf p 0) 0) s in
+      let f : eqb (byteOf p 0) 0 ≡ true = not-false (eqb (byteOf p 0) 0) s in
       let g = and-both (unused 2 7 p) (isGood (only (eqb (byteOf p 1) 0 && unused 8 23 p) (Good Unmentioned))) (sym (good-both (unused 2 7 p) _) ∙ rw (eq-eqb (length p) 24 h, f) at e) in
       let k = and-both (eqb (byteOf p 1) 0) (unused 8 23 p) (sym (good-only (eqb (byteOf p 1) 0 && unused 8 23 p) Unmentioned) ∙ g .1) in
       rw (filled-join 0 2 6 p 0, two f (k .0), g .0, k .1)
@@ -231,11 +207,3 @@ module _ (p : List ℕ) (h : length p ≡ 24) where
   pub bad-told : (filled 0 8 p 0 && filled 0 16 p 8) ≡ false → (isGood (decodeOf p) && mentions (byteOf p 0)) ≡ false → decodeOf p ≡ Broken
   bad-told x y = not-good (decodeOf p) (never (isGood (decodeOf p)) (λ g. by-test (mentions (byteOf p 0)) (λ m.
       let z : (isGood (decodeOf p) && mentions (byteOf p 0)) ≡ true = rw (g, m) in contrary z y) (λ m. contrary (silent-told g m) x)))
-
-pub from-not : (b : Bool) → not b ≡ true → b ≡ false
-from-not true e = sym e
-from-not false e = refl
-
-pub from-not-false : (b : Bool) → not b ≡ false → b ≡ true
-from-not-false true e = refl
-from-not-false false e = sym e

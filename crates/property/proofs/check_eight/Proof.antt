@@ -3,18 +3,19 @@
 use Prim.Native.Nat.{ℕ, _+_, _-_, _≤_}
 use mathlib.Core.Path.{_≡_, sym, _∙_}
 use mathlib.Core.List.{List}
-use mathlib.Core.Bool.{Bool, true, false, _&&_}
+use mathlib.Core.Bool.{_&&_}
 use mathlib.Core.Logic.{_⊎_, inl, inr}
 use native.Mathlib.Omega.{arith}
 use lib.ListN.{length, take, drop, length-take, length-drop}
+use borrow.Author.Tests.{not-true, not-false}
 use borrow.Author.Needs.{needs}
 use Rattle.laws.specs.Lists.{pieces}
+use Rattle.octets.specs.Bytes.{byteOf, filled}
 use Rattle.property.specs.Value.{mentions}
 use Rattle.property.specs.Layout.{decodeOf}
 use Rattle.property.specs.Eight.{isGood, surveyOf}
-use Rattle.octets.specs.Bytes.{byteOf, filled}
 use Rattle.property.proofs.Found.{foundFrom, found-start, found-end, breaks-less, turn-bad, turn-less, turn-broken, turn-mentioned, turn-silent}
-use Rattle.property.proofs.Sound.{blank-told, bad-told, from-not, from-not-false}
+use Rattle.property.proofs.Sound.{blank-told, bad-told}
 use Rattle.property.proofs.check_eight.Statement.{statement}
 use Rattle.property.proofs.check_eight.Tie as tie
 
@@ -72,7 +73,7 @@ returns-3 c =
     let d = m .before .before .before in
     let t = d .before .before .before in
     sym (t .before .loop .inv .1 .1 .1 ∙ turn-broken _ _ _ _ (t .loop-test .taken) (t .before .before .if1 .left)
-    (bad-told (piece d) (sized d) (sym (blank d) ∙ from-not _ (m .before .before .if3 .taken)) (sym (mention m) ∙ from-not _ (c .if4 .taken))))
+    (bad-told (piece d) (sized d) (sym (blank d) ∙ not-true _ (m .before .before .if3 .taken)) (sym (mention m) ∙ not-true _ (c .if4 .taken))))
 
 -- after a property
 step : (c : tie.Joined3 Inv-loop μ-loop) → let l = c .before .before .before .before .before in
@@ -85,12 +86,12 @@ step c =
     (λ x. (
       omega (arith, x .4),
       rw (x .4) (t .before .loop .inv .1 .1 .1 ∙ turn-mentioned _ _ _ _ (t .loop-test .taken) (t .before .before .if1 .left)
-          (sym (mention (record { before = record { before = record { before = c .before; if3 = x .0 }; is-mentioned-arg = x .1 }; is-mentioned = x .2 })) ∙ from-not-false _ (x .3 .left))),
+          (sym (mention (record { before = record { before = record { before = c .before; if3 = x .0 }; is-mentioned-arg = x .1 }; is-mentioned = x .2 })) ∙ not-false _ (x .3 .left))),
     ))
     (λ x. (
       omega (arith, x .1),
       rw (x .1) (t .before .loop .inv .1 .1 .1 ∙ turn-silent _ _ _ _ (t .loop-test .taken) (t .before .before .if1 .left)
-          (blank-told (piece (c .before)) (sized (c .before)) (sym (blank (c .before)) ∙ from-not-false _ (x .0 .left)))),
+          (blank-told (piece (c .before)) (sized (c .before)) (sym (blank (c .before)) ∙ not-false _ (x .0 .left)))),
     ))
 
 loop-again : tie.Need-loop-again Inv-loop μ-loop
