@@ -1,18 +1,18 @@
 -- Laws of lists. Assumes nothing.
 use Prim.Native.Nat.{ℕ, zero, suc, _+_, _-_, _≤_, _<_}
-use mathlib.Core.Path.{_≡_, refl, ap, _∙_}
+use mathlib.Core.Path.{_≡_, refl, sym, ap, _∙_}
 use mathlib.Core.List.{List, [], _∷_, _++_, map}
 use mathlib.Core.Bool.{Bool, true, false, cond, _&&_, _||_}
 use mathlib.Core.Logic.{inl, inr, ⊎-elim, _↔_}
 use native.Mathlib.Nat.{zero-add}
 use native.Mathlib.Omega.{arith}
 use lib.ListN.{length, getD, take, drop, length-append, length-take, length-drop}
-use lib.Seq.{take-all, take-append-add, drop-append-add, getD-append-add}
+use lib.Seq.{take-all, take-take, take-append-add, drop-append-add, getD-append-add}
 use lib.Dec.{eqb, ltb, eqb·suc-suc}
 use borrow.Author.Tests.{ne-eqb, lt-ltb}
 use Rattle.laws.specs.Lists.{pieces, all, any, count, first, kept, insertedAt, replacedAt}
 use Rattle.laws.specs.Keyed.{In}
-use Rattle.laws.proofs.Tests.{pick-ind, contrary, and-both, or-either, or-neither}
+use Rattle.laws.proofs.Tests.{pick-ind, by-test, contrary, never, and-both, or-either, or-neither}
 
 pub length-pieces : {A : Type 0} (size n : ℕ) (l : List A) → length (pieces size n l) ≡ n
 length-pieces size zero l = refl
@@ -65,6 +65,11 @@ pub getD-in : {A : Type 0} (l : List A) (i : ℕ) (d : A) → i < length l → I
 getD-in [] i d h = absurd (omega arith)
 getD-in (x ∷ xs) zero d h = inl refl
 getD-in (x ∷ xs) (suc i) d h = inr (getD-in xs i d (omega arith))
+
+-- and one that is in the list is at a place
+pub in-at : {A : Type 0} (l : List A) (x d : A) → In x l → (i : ℕ) × (i < length l) × (getD l i d ≡ x)
+in-at (y ∷ ys) x d (inl e) = (0, omega arith, sym e)
+in-at (y ∷ ys) x d (inr m) = let (i, h, e) = in-at ys x d m in (suc i, omega arith, e)
 
 -- ---- tests and members
 module _ {A : Type 0} (test : A → Bool) where
@@ -123,6 +128,13 @@ module _ {A : Type 0} (test : A → Bool) where
   first-least (x ∷ xs) (suc i) d h t =
       pick-ind (λ n. n ≤ suc i) (test x) (λ _. omega arith) (λ _. omega (arith, first-least xs i d (omega arith) t))
 
+-- what passes a test is kept by one that lets it pass
+pub kept-kept : {A : Type 0} (f g : A → Bool) (l : List A) → ((x : A) → f x ≡ true → g x ≡ true) → kept f (kept g l) ≡ kept f l
+kept-kept f g [] h = refl
+kept-kept f g (x ∷ xs) h =
+    let e = kept-kept f g xs h in
+    by-test (g x) (λ t. rw (t, e)) (λ n. rw (n, never (f x) (λ t. contrary (h x t) n)) e)
+
 -- behind a first part of known length
 module _ {A : Type 0} (p l : List A) (k n : ℕ) (e : length p ≡ k) where
   pub take-past : take (k + n) (p ++ l) ≡ p ++ take n l
@@ -151,3 +163,15 @@ module _ {A B : Type 0} (f : A → B) where
   pub in-map : (l : List A) (x : A) → In x l → In (f x) (map f l)
   in-map (y ∷ ys) x (inl e) = inl (ap f e)
   in-map (y ∷ ys) x (inr m) = inr (in-map ys x m)
+
+  pub drop-map : (i : ℕ) (l : List A) → drop i (map f l) ≡ map f (drop i l)
+  drop-map zero l = refl
+  drop-map (suc i) [] = refl
+  drop-map (suc i) (x ∷ xs) = drop-map i xs
+
+-- a part of a part
+pub part-of : {A : Type 0} (at n size : ℕ) (l : List A) → at + n ≤ size → take n (drop at (take size l)) ≡ take n (drop at l)
+part-of zero n size l h = take-take n size l (omega arith)
+part-of (suc at) n zero l h = absurd (omega arith)
+part-of (suc at) n (suc size) [] h = refl
+part-of (suc at) n (suc size) (x ∷ xs) h = part-of at n size xs (omega arith)

@@ -7,6 +7,7 @@ use mathlib.Core.Logic.{_⊎_, inl, inr, ⊎-elim}
 use mathlib.Core.Option.{Option, none, some, Option·none-ne-some, Option·some-injective}
 use lib.ListN.{length}
 use lib.Dec.{ltb, eqb}
+use Rattle.laws.specs.Lists.{kept}
 use Rattle.laws.specs.Keyed.{In, Rising, stored, put, arrived, against}
 use Rattle.laws.proofs.Tests.{tests, pick-ind, contrary}
 use Rattle.laws.proofs.Places.{KeyOrder, less-apart, differs-above, head-below, stored-below, stored-first}
@@ -17,6 +18,15 @@ pub record Kept {R K : Type 0} (key : R → K) (less same : K → K → Bool) (P
   pub grows : length rs ≤ length us
   pub fits : length us ≤ room
   pub all : (x : R) → In x us → P x
+
+-- a put changes nothing among the records that pass a test, where neither what is put passes nor what was stored of its key
+pub put-kept : {R K : Type 0} (key : R → K) (less same : K → K → Bool) (test : R → Bool) (r : R) (rs : List R) → test r ≡ false
+    → ((x : R) → stored key less same (key r) rs ≡ some x → test x ≡ false) → kept test (put key less same r rs) ≡ kept test rs
+put-kept key less same test r [] n h = rw n
+put-kept key less same test r (x ∷ xs) n h =
+    pick-ind (λ l. kept test l ≡ kept test (x ∷ xs)) (less (key r) (key x)) (λ _. rw n)
+    (λ _. pick-ind (λ l. kept test l ≡ kept test (x ∷ xs)) (same (key r) (key x)) (λ s. rw (n, h x (rw s)))
+    (λ s. rw (put-kept key less same test r xs n (λ y e. h y (rw s e)))))
 
 module _ {R K : Type 0} (key : R → K) (less same : K → K → Bool) (o : KeyOrder less same) where
   -- of a key there is one record

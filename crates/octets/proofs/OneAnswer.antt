@@ -26,6 +26,8 @@ use Rattle.octets.proofs.writers.put.Kinds as put-k
 use Rattle.octets.proofs.writers.put.Reads as put
 use Rattle.octets.proofs.writers.put16.Kinds as put16-k
 use Rattle.octets.proofs.writers.put16.Reads as put16
+use Rattle.octets.proofs.writers.put32.Kinds as put32-k
+use Rattle.octets.proofs.writers.put32.Reads as put32
 use Rattle.octets.proofs.writers.open_gap.Kinds as open-gap-k
 use Rattle.octets.proofs.writers.open_gap.Reads as open-gap
 
@@ -64,6 +66,9 @@ put-one κs a = (tt, λ z z' ws ws' p q. (refl, both (same p q) refl))
 
 pub put16-one : OneAnswer put16-k.ps put16-k.r put16.Asked put16.Learnt
 put16-one κs a = (tt, λ z z' ws ws' p q. (refl, both (same p q) refl))
+
+pub put32-one : OneAnswer put32-k.ps put32-k.r put32.Asked put32.Learnt
+put32-one κs a = (tt, λ z z' ws ws' p q. (refl, both (same p q) refl))
 
 pub open-gap-one : OneAnswer open-gap-k.ps open-gap-k.r open-gap.Asked open-gap.Learnt
 open-gap-one κs a = (tt, λ z z' ws ws' p q. (refl, both (same p q) refl))

@@ -5,6 +5,7 @@ mod writers;
 pub use writers::open_gap;
 pub use writers::put;
 pub use writers::put16;
+pub use writers::put32;
 ghost use mathlib.Core.Path.{_≡_};
 ghost use Prim.Native.Nat.{_+_, _*_};
 ghost use lib.ListN.{length};

@@ -8,6 +8,7 @@ pub mod Sound
 pub mod Made
 pub mod Kept
 pub mod Stays
+pub mod Arrived
 pub mod Delivered
 pub mod AnyOrder
 pub mod Decides

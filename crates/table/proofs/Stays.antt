@@ -4,7 +4,7 @@ use mathlib.Core.Path.{_≡_, refl, sym, ap, _∙_}
 use mathlib.Core.List.{List}
 use mathlib.Core.Bool.{true, false}
 use mathlib.Core.Option.{Option, none, some}
-use mathlib.Core.Logic.{_⊎_, inl, inr}
+use mathlib.Core.Logic.{_⊎_, inl, inr, ⊎-elim}
 use native.Mathlib.Nat.{zero-mul}
 use native.Mathlib.Omega.{arith}
 use lib.ListN.{length}
@@ -172,29 +172,43 @@ pub arrival-keeps : (stride side room : ℕ) (rs : List (List ℕ)) (r : List �
     → Kept keyOf keyLess sameKey (Good stride side) room rs (arrived keyOf keyLess sameKey correctionNumber room r rs)
 arrival-keeps stride side room rs r up h g d = arrived-kept keyOf keyLess sameKey key-order correctionNumber (Good stride side) room rs r up h g d
 
+-- ---- what an arrival does, whatever the table and the slice
+module _ (t s : List ℕ) where
+  -- the records that it makes of the stored ones
+  abbrev pub made : List (List ℕ)
+  made = arrived keyOf keyLess sameKey correctionNumber (room t s) (recordOf s) (stored-records t s)
+
+  -- a sound table, written with them
+  pub record Filed : Type 0 where
+    pub sound : checkTable Both t ≡ Sound
+    pub writes : arrivedAt t s ≡ written t made
+    pub keeps : Kept keyOf keyLess sameKey (Good (strideOf t) (sideOf t)) (room t s) (stored-records t s) made
+
+  -- the table is left as it was, or is written with them
+  pub left-or-filed : (arrivedAt t s ≡ t) ⊎ Filed
+  left-or-filed = go (checkTable Both t) refl
+    where
+      by-slice : checkTable Both t ≡ Sound → (c : Checked) → checkSlice (strideOf t) (featureOf t) (sideOf t) s ≡ c → (arrivedAt t s ≡ t) ⊎ Filed
+      by-slice e (Refused f) d = inl (left-by-slice t s e f d)
+      by-slice e Sound d = ⊎-elim (λ p. inl (filed-by t s e d ∙ p .0)) (λ p. inr (record { sound = e; writes = filed-by t s e d ∙ p; keeps = k }))
+          (filing-changes (room t s) (recordOf s) (stored-records t s) t)
+        where
+          h : SoundTable (strideOf t) Both t
+          h = sound-table Both t e
+
+          k : Kept keyOf keyLess sameKey (Good (strideOf t) (sideOf t)) (room t s) (stored-records t s) made
+          k =
+              arrival-keeps (strideOf t) (sideOf t) (room t s) (stored-records t s) (recordOf s) (order-in _ (h .rising)) (omega (arith, h .roomy, records-length (recordSize (strideOf t)) t))
+              (all-good (strideOf t) (sideOf t) (stored-records t s) (h .sound)) (sound-slice _ _ _ s d .sound)
+
+      go : (c : Checked) → checkTable Both t ≡ c → (arrivedAt t s ≡ t) ⊎ Filed
+      go (Refused f) e = inl (left-by-table t s f e)
+      go Sound e = by-slice e (checkSlice (strideOf t) (featureOf t) (sideOf t) s) refl
+
 -- STILL SOUND: a table that passes 1 to 7, for the sides that a call takes, passes them after the arrival of any slice
 pub still-sound : (sides : Sides) (t s : List ℕ) → checkTable sides t ≡ Sound → checkTable sides (arrivedAt t s) ≡ Sound
-still-sound sides t s sound = go (checkTable Both t) refl
-  where
-    h : SoundTable (strideOf t) sides t
-    h = sound-table sides t sound
-
-    same : arrivedAt t s ≡ t → checkTable sides (arrivedAt t s) ≡ Sound
-    same e = ap (checkTable sides) e ∙ sound
-
-    by-slice : checkTable Both t ≡ Sound → (c : Checked) → checkSlice (strideOf t) (featureOf t) (sideOf t) s ≡ c → checkTable sides (arrivedAt t s) ≡ Sound
-    by-slice e (Refused f) d = same (left-by-slice t s e f d)
-    by-slice e Sound d = by-change (filing-changes (room t s) (recordOf s) (stored-records t s) t)
-      where
-        k : Kept keyOf keyLess sameKey (Good (strideOf t) (sideOf t)) (room t s) (stored-records t s) (arrived keyOf keyLess sameKey correctionNumber (room t s) (recordOf s) (stored-records t s))
-        k =
-            arrival-keeps (strideOf t) (sideOf t) (room t s) (stored-records t s) (recordOf s) (order-in _ (h .rising)) (omega (arith, h .roomy, records-length (recordSize (strideOf t)) t))
-            (all-good (strideOf t) (sideOf t) (stored-records t s) (h .sound)) (sound-slice _ _ _ s d .sound)
-
-        by-change : Changes (room t s) (recordOf s) (stored-records t s) t → checkTable sides (arrivedAt t s) ≡ Sound
-        by-change (inl p) = same (filed-by t s e d ∙ p .0)
-        by-change (inr p) = ap (checkTable sides) (filed-by t s e d ∙ p) ∙ table-sound sides _ (stays (strideOf t) sides t h _ (k .all) (k .fits) (k .up))
-
-    go : (c : Checked) → checkTable Both t ≡ c → checkTable sides (arrivedAt t s) ≡ Sound
-    go (Refused f) e = same (left-by-table t s f e)
-    go Sound e = by-slice e (checkSlice (strideOf t) (featureOf t) (sideOf t) s) refl
+still-sound sides t s sound =
+    ⊎-elim (λ e. ap (checkTable sides) e ∙ sound)
+    (λ f. let k = f .keeps in
+    ap (checkTable sides) (f .writes) ∙ table-sound sides _ (stays (strideOf t) sides t (sound-table sides t sound) _ (k .all) (k .fits) (k .up)))
+    (left-or-filed t s)
