@@ -1,0 +1,9 @@
+pub mod Counted
+pub mod Period
+pub mod Anchor
+pub mod State
+pub mod Permanent
+pub mod Snapshot
+pub mod Source
+pub mod Reach
+pub mod Parts

@@ -1,0 +1,19 @@
+-- How long a BASELINE holds, and how far it reaches. This rule stands nowhere else. Assumes nothing.
+use mathlib.Core.Bool.{Bool}
+use mathlib.Core.List.{List}
+use Rattle.numbers.specs.declared.Instant.{Instant}
+use Rattle.slice.specs.Record.{Slice}
+use Rattle.history.specs.Counted.{holds}
+
+-- when a counted BASELINE of some slices ends
+unfoldable pub until : List Slice → Slice → Instant
+until slices b = b .period .end
+
+-- t lies in the reach of a counted BASELINE
+unfoldable pub baselineReach : Instant → Slice → Bool
+baselineReach t b = holds t (b .period .begin) (b .period .end)
+
+-- `unfolding periods` opens this file
+unfoldable pub periods : Unit {0}
+unfolding until baselineReach
+periods = tt

@@ -1,0 +1,109 @@
+-- Parts of a state's record, written one behind the other. Assumes nothing.
+use Prim.Native.Nat.{ℕ, zero, suc, _+_, _-_, _*_, _≤_, _<_}
+use mathlib.Core.Path.{_≡_, refl, sym, ap, _∙_}
+use mathlib.Core.List.{List, [], _∷_, _++_, append-nil}
+use native.Mathlib.Nat.{suc-mul}
+use native.Mathlib.Omega.{arith}
+use lib.Dec.{eqb}
+use lib.Seq.{length-take-le}
+use lib.ListN.{length, getD, take, drop, replicate, length-append, length-drop, drop-of-length-le, take-append-drop}
+use Rattle.octets.specs.Writing.{bytesOf, pasted}
+use Rattle.octets.proofs.Writing.{pasted-length, pasted-then, pasted-whole}
+use Rattle.slice.specs.declared.record.Life.{Life}
+use Rattle.numbers.specs.Numbers.{none}
+use Rattle.numbers.specs.declared.Instant.{Instant}
+use Rattle.state.specs.Written.{stateKind, stateTimes, nilUnknown}
+use Rattle.slice.specs.Record.{recordSize}
+use Rattle.table.specs.Header.{countOf, strideOf, roomOf, recordAt}
+use Rattle.state.specs.Steps.{nothing, saidAt, propertyBy, propertyFrom, runOf, Known}
+use Rattle.state.specs.declared.mention.Mark.{Mark}
+use Rattle.state.specs.declared.anchor.Start.{Start}
+use Rattle.state.proofs.Settled.{origin-known}
+use Rattle.state.proofs.Walks.{size-at}
+use Rattle.laws.proofs.Pieces.{piece-within}
+use Rattle.laws.proofs.Tests.{pick-ind}
+
+-- four times
+pub times-pasted : (d : List ℕ) (t : Instant) (l : Life) → 32 ≤ length d
+    → pasted (pasted (pasted (pasted d 8 (bytesOf 4 (t .0))) 12 (bytesOf 4 (none .0))) 16 (bytesOf 4 (l .begin .0))) 20 (bytesOf 4 (l .end .0)) ≡ pasted d 8 (stateTimes t l)
+times-pasted d t l h =
+    let a = bytesOf 4 (t .0) in
+    let b = bytesOf 4 (none .0) in
+    let c = bytesOf 4 (l .begin .0) in
+    let e = bytesOf 4 (l .end .0) in
+    let d₁ = pasted d 8 a in
+    let d₂ = pasted d₁ 12 b in
+    let n₁ : length d₁ ≡ length d = pasted-length d a 8 in
+    let n₂ : length d₂ ≡ length d = pasted-length d₁ b 12 ∙ n₁ in
+    pasted-then d₂ c e 16 20 refl (omega arith)
+    ∙ (pasted-then d₁ b (c ++ e) 12 16 refl (omega arith) ∙ pasted-then d a (b ++ (c ++ e)) 8 12 refl (omega arith))
+
+-- what comes before the properties
+pub head-pasted : (d : List ℕ) (t : Instant) (l : Life) → 32 ≤ length d
+    → pasted (pasted (pasted d 0 stateKind) 8 (stateTimes t l)) 24 (replicate 8 0) ≡ pasted d 0 (stateKind ++ (stateTimes t l ++ replicate 8 0))
+head-pasted d t l h =
+    let d₁ = pasted d 0 stateKind in
+    let n₁ : length d₁ ≡ length d = pasted-length d stateKind 0 in
+    pasted-then d₁ (stateTimes t l) (replicate 8 0) 8 24 refl (omega arith) ∙ pasted-then d stateKind (stateTimes t l ++ replicate 8 0) 0 8 refl (omega arith)
+
+-- nil, unknown
+take-zeros : (n m : ℕ) → n ≤ m → take {A = ℕ} n (replicate m 0) ≡ replicate n 0
+take-zeros zero m h = refl
+take-zeros (suc n) zero h = absurd (omega arith)
+take-zeros (suc n) (suc m) h = ap (λ l. 0 ∷ l) (take-zeros n m (omega arith))
+
+pub unknown-cut : (stride : ℕ) → 2 ≤ stride → stride ≤ 32 → take stride (1 ∷ 4 ∷ replicate 30 0) ≡ nilUnknown stride
+unknown-cut zero h k = absurd (omega arith)
+unknown-cut (suc zero) h k = absurd (omega arith)
+unknown-cut (suc (suc n)) h k = let e : suc (suc n) - 2 ≡ n = omega arith in rw e (ap (λ l. 1 ∷ 4 ∷ l) (take-zeros n 30 (omega arith)))
+
+-- properties, one behind the other
+pub run-pasted : (d : List ℕ) (f : ℕ → List ℕ) (stride n : ℕ) → length (runOf f n) ≡ n * stride → length (f n) ≡ stride → 32 + n * stride + stride ≤ length d
+    → pasted (pasted d 32 (runOf f n)) (32 + n * stride) (f n) ≡ pasted d 32 (runOf f (n + 1))
+run-pasted d f stride n h k room =
+    let s : n + 1 ≡ suc n = omega arith in
+    rw s (pasted-then d (runOf f n) (f n) 32 (32 + n * stride) (omega arith) (omega arith))
+
+-- the head and then the properties are all of the record
+pub whole-pasted : (d a b : List ℕ) → length a ≡ 32 → length d ≡ 32 + length b → pasted (pasted d 0 a) 32 b ≡ a ++ b
+whole-pasted d a b h k =
+    let n : 0 + length (a ++ b) ≡ length d = omega (arith, length-append a b) in
+    let past : length d ≤ 0 + length (a ++ b) = omega arith in
+    let r : drop (0 + length (a ++ b)) d ≡ [] = drop-of-length-le d past in
+    pasted-then d a b 0 32 (omega arith) (omega arith) ∙ (pasted-whole d (a ++ b) 0 (omega arith) ∙ (ap (λ l. (a ++ b) ++ l) r ∙ append-nil (a ++ b)))
+
+-- a property as the record of a place and one says it
+pub said-cut : (t : List ℕ) (n k : ℕ) → (k ≡ 0 → ⊥) → take (strideOf t) (drop (32 + n * strideOf t) (recordAt (recordSize (strideOf t)) (k - 1) t)) ≡ saidAt t n k
+said-cut t n zero h = absurd (h refl)
+said-cut t n (suc i) h =
+    let e : suc i - 1 ≡ i = omega arith in
+    ap (λ (j : ℕ). take (strideOf t) (drop (32 + n * strideOf t) (recordAt (recordSize (strideOf t)) j t))) e
+
+-- ---- lengths
+module _ (t : List ℕ) (roomy : countOf t ≤ roomOf (recordSize (strideOf t)) t) where
+  pub said-length : (n : ℕ) → n < 8 → (k : ℕ) → k ≤ countOf t → length (saidAt t n k) ≡ strideOf t
+  said-length n h zero m = refl
+  said-length n h (suc i) m =
+      let e = size-at t roomy i m in
+      length-take-le (strideOf t) (drop (32 + n * strideOf t) (recordAt (recordSize (strideOf t)) i t)) (simp length-drop (omega (arith, e, piece-within (strideOf t) n 8 h)))
+
+pub run-length : (f : ℕ → List ℕ) (stride n : ℕ) → ((i : ℕ) → i < n → length (f i) ≡ stride) → length (runOf f n) ≡ n * stride
+run-length f stride zero h = omega arith
+run-length f stride (suc n) h =
+    length-append (runOf f n) (f n) ∙ omega (arith, run-length f stride n (λ i k. h i (omega arith)), h n (omega arith), suc-mul n stride)
+
+pub pasted-none : (d : List ℕ) (at : ℕ) → at ≤ length d → d ≡ pasted d at []
+pasted-none d at h =
+    let z : at + 0 ≡ at = omega arith in
+    sym (pasted-whole d [] at (omega arith) ∙ (ap (λ (n : ℕ). take at d ++ drop n d) z ∙ take-append-drop at d))
+
+-- property n by the marks of its place
+pub property-by : (p t : List ℕ) (s : Start) (ms os : List Mark) (n : ℕ) → propertyBy p t s (getD ms n nothing) (getD os n nothing) n ≡ propertyFrom p t s ms os n
+unfolding propertyBy propertyFrom
+property-by p t s ms os n = refl
+
+pub from-length : (p t : List ℕ) → countOf p ≤ roomOf (recordSize (strideOf p)) p → countOf t ≤ roomOf (recordSize (strideOf t)) t
+    → (s : Start) (ms os : List Mark) → s .place < countOf p → Known (countOf p) ms → Known (countOf t) os → (n : ℕ) → n < 8 → length (propertyFrom p t s ms os n) ≡ strideOf p
+unfolding propertyFrom
+from-length p t room room′ s ms os h km ko n k =
+    pick-ind {X = List ℕ} (λ l. length l ≡ strideOf p) (eqb (getD os n nothing .from) 0) (λ _. said-length p room n k _ (origin-known (countOf p) s _ _ h (km n k))) (λ _. said-length t room′ n k _ (ko n k))

@@ -1,0 +1,152 @@
+-- DEMAND 3, SECOND HALF, from bytes: an arrival changes an answer about an instant, or a byte of the record written, only where the
+-- instant lies in the reach of the slice or of the stored record of its kind and sequence number. For all tables, slices, instants
+-- and buffers: the check of a table answers as before, and the slices whose reach has the instant are as before. Assumes nothing.
+use Prim.Native.Nat.{ℕ}
+use mathlib.Core.Path.{_≡_, refl, sym, ap, _∙_}
+use mathlib.Core.List.{List, [], _∷_, _++_, map}
+use mathlib.Core.Bool.{true, false, not}
+use mathlib.Core.Logic.{_⊎_, inl, inr, ⊎-elim}
+use mathlib.Core.Option.{Option, none, some, Option·none-ne-some, Option·some-injective, map-eq-some-iff}
+use Rattle.laws.specs.Lists.{kept}
+use Rattle.laws.specs.Keyed.{stored}
+use Rattle.laws.specs.Refusals.{test, refuse}
+use Rattle.laws.proofs.Tests.{by-test}
+use Rattle.octets.specs.Bytes.{sameBytes}
+use Rattle.numbers.specs.declared.Instant.{Instant}
+use Rattle.slice.specs.Record.{recordSize, keyOf, keyLess, sameKey, Slice, viewOf}
+use Rattle.table.specs.Header.{featureOf, strideOf, recordsOf}
+use Rattle.table.specs.Rules.{tableTests}
+use Rattle.table.specs.Arriving.{recordOf, storedOf, arrivedAt}
+use Rattle.table.specs.declared.check.Sides.{Sides}
+use Rattle.table.specs.declared.check.Sides.the-variants.{Permanent, Temporary}
+use Rattle.table.proofs.Kept.{same-feature}
+use Rattle.table.proofs.Arrived.{arrival-alike, arrival-tests, arrival-records}
+use Rattle.history.specs.Counted.{sliceKey}
+use Rattle.history.specs.Permanent.{permanentAt}
+use Rattle.history.specs.Snapshot.{snapshotAt}
+use Rattle.history.specs.Reach.{reaches}
+use Rattle.history.proofs.Reach.{permanent-reach, snapshot-reach, put-reach}
+use Rattle.state.specs.Asking.{slicesOf, permanentTests, bothTests, misfits, writingTests, refusedOutcome, outcomeOf, permanentStateOf, snapshotOf, buffered, afterState, afterSnapshot}
+use Rattle.state.proofs.Slices.{view-key, view-put, view-stored}
+
+-- ---- an instant, a table, and a slice that arrives
+module _ (at : Instant) (t s : List ℕ) where
+  abbrev records : List (List ℕ)
+  records = recordsOf (recordSize (strideOf t)) t
+
+  abbrev view : List ℕ → Slice
+  view = viewOf (strideOf t)
+
+  -- the instant lies in the reach of the slice, or of the stored record of its kind and sequence number
+  abbrev pub Reached : Type 0
+  Reached = (reaches at (view (recordOf s)) ≡ true) ⊎ ((x : List ℕ) × (storedOf (recordOf s) records ≡ some x) × (reaches at (view x) ≡ true))
+
+  -- it lies in neither
+  abbrev pub Outside : Type 0
+  Outside = (reaches at (view (recordOf s)) ≡ false) × ((x : List ℕ) → storedOf (recordOf s) records ≡ some x → reaches at (view x) ≡ false)
+
+  reached-or : Reached ⊎ Outside
+  reached-or = by-test (reaches at (view (recordOf s))) (λ y. inl (inl y)) (λ n. go n (storedOf (recordOf s) records) refl)
+    where
+      go : reaches at (view (recordOf s)) ≡ false → (o : Option (List ℕ)) → storedOf (recordOf s) records ≡ o → Reached ⊎ Outside
+      go n none e = inr (n, λ x q. absurd (Option·none-ne-some x (sym e ∙ q)))
+      go n (some y) e =
+          by-test (reaches at (view y)) (λ h. inl (inr (y, e, h)))
+          (λ h. inr (n, λ x q. ap (λ z. reaches at (view z)) (sym (Option·some-injective y x (sym e ∙ q))) ∙ h))
+
+  -- outside, the slices whose reach has the instant are as they were
+  near-same : Outside → kept (reaches at) (slicesOf (arrivedAt t s)) ≡ kept (reaches at) (slicesOf t)
+  unfolding slicesOf storedOf
+  near-same (n, h) =
+      ⊎-elim (λ e. ap (λ rs. kept (reaches at) (map view rs)) e)
+      (λ e. ap (λ rs. kept (reaches at) (map view rs)) e ∙ ap (kept (reaches at)) (view-put (strideOf t) (recordOf s) records)
+      ∙ put-reach at (view (recordOf s)) (map view records) n there)
+      (arrival-records t s)
+    where
+      there : (x : Slice) → stored sliceKey keyLess sameKey (sliceKey (view (recordOf s))) (map view records) ≡ some x → reaches at x ≡ false
+      there x q =
+          let (y, e, v) = map-eq-some-iff view (storedOf (recordOf s) records) .0
+          (sym (view-stored (strideOf t) (keyOf (recordOf s)) records) ∙ (rw (view-key (strideOf t) (recordOf s)) at q)) in
+          ap (reaches at) (sym v) ∙ h y e
+
+-- ---- a table that answers the check as another does and has the same slices in reach
+record AsBefore (sides : Sides) (at : Instant) (t u : List ℕ) : Type 0 where
+  tests : tableTests (strideOf u) sides u ≡ tableTests (strideOf t) sides t
+  feature : featureOf u ≡ featureOf t
+  near : kept (reaches at) (slicesOf u) ≡ kept (reaches at) (slicesOf t)
+
+as-itself : (sides : Sides) (at : Instant) (t : List ℕ) → AsBefore sides at t t
+as-itself sides at t = record { tests = refl; feature = refl; near = refl }
+
+as-arrived : (sides : Sides) (at : Instant) (t s : List ℕ) → Outside at t s → AsBefore sides at t (arrivedAt t s)
+as-arrived sides at t s out = record {
+  tests = arrival-tests t s sides;
+  feature = same-feature t (arrivedAt t s) (arrival-alike t s);
+  near = near-same at t s out;
+}
+
+-- ---- the answer and the buffer
+-- two permanent tables
+module _ (at : Instant) (buffer p p' : List ℕ) where
+  -- the permanent state is answered alike and leaves the same bytes
+  abbrev pub SameState : Type 0
+  SameState =
+      (permanentStateOf p' at buffer ≡ permanentStateOf p at buffer)
+      × (afterState (permanentStateOf p' at buffer) p' at buffer ≡ afterState (permanentStateOf p at buffer) p at buffer)
+
+  same-state : AsBefore Permanent at p p' → SameState
+  unfolding permanentStateOf permanentTests misfits
+  same-state a = (answer, λ i. buffered (answer i) (strideOf p) at (standing i) buffer)
+    where
+      standing : permanentAt at (slicesOf p') ≡ permanentAt at (slicesOf p)
+      standing = permanent-reach at (slicesOf p') (slicesOf p) (a .near)
+
+      answer : permanentStateOf p' at buffer ≡ permanentStateOf p at buffer
+      answer i = refuse refusedOutcome (a .tests i ++ writingTests p at buffer) (outcomeOf (standing i))
+
+  -- two temporary tables
+  module _ (t t' : List ℕ) where
+    -- so is the snapshot
+    abbrev pub SameSnapshot : Type 0
+    SameSnapshot =
+        (snapshotOf p' t' at buffer ≡ snapshotOf p t at buffer)
+        × (afterSnapshot (snapshotOf p' t' at buffer) p' t' at buffer ≡ afterSnapshot (snapshotOf p t at buffer) p t at buffer)
+
+    same-snapshot : AsBefore Permanent at p p' → AsBefore Temporary at t t' → SameSnapshot
+    unfolding snapshotOf bothTests permanentTests misfits
+    same-snapshot a b = (answer, λ i. buffered (answer i) (strideOf p) at (standing i) buffer)
+      where
+        standing : snapshotAt at (slicesOf p') (slicesOf t') ≡ snapshotAt at (slicesOf p) (slicesOf t)
+        standing = snapshot-reach at (slicesOf p') (slicesOf p) (slicesOf t') (slicesOf t) (a .near) (b .near)
+
+        answer : snapshotOf p' t' at buffer ≡ snapshotOf p t at buffer
+        answer i =
+            refuse refusedOutcome
+            ((a .tests i ++ (b .tests i ++ (test 8 (not (sameBytes (a .feature i) (b .feature i))) ∷ []))) ++ writingTests p at buffer)
+            (outcomeOf (standing i))
+
+-- ---- OUTSIDE REACH nothing changes, and so what changes lies in reach
+within : (at : Instant) (t s : List ℕ) {A : Type 0} → (Outside at t s → A) → (A → ⊥) → Reached at t s
+within at t s same differs = ⊎-elim (λ r. r) (λ out. absurd (differs (same out))) (reached-or at t s)
+
+module _ (at : Instant) (buffer p s : List ℕ) where
+  pub state-outside : Outside at p s → SameState at buffer p (arrivedAt p s)
+  state-outside out = same-state at buffer p (arrivedAt p s) (as-arrived Permanent at p s out)
+
+  pub state-changed : (SameState at buffer p (arrivedAt p s) → ⊥) → Reached at p s
+  state-changed = within at p s state-outside
+
+module _ (at : Instant) (buffer p t s : List ℕ) where
+  -- the slice arrives at the permanent table
+  pub permanent-outside : Outside at p s → SameSnapshot at buffer p (arrivedAt p s) t t
+  permanent-outside out = same-snapshot at buffer p (arrivedAt p s) t t (as-arrived Permanent at p s out) (as-itself Temporary at t)
+
+  pub permanent-changed : (SameSnapshot at buffer p (arrivedAt p s) t t → ⊥) → Reached at p s
+  permanent-changed = within at p s permanent-outside
+
+  -- it arrives at the temporary table
+  pub temporary-outside : Outside at t s → SameSnapshot at buffer p p t (arrivedAt t s)
+  temporary-outside out = same-snapshot at buffer p p t (arrivedAt t s) (as-itself Permanent at p) (as-arrived Temporary at t s out)
+
+  pub temporary-changed : (SameSnapshot at buffer p p t (arrivedAt t s) → ⊥) → Reached at t s
+  temporary-changed = within at t s temporary-outside

@@ -1,0 +1,85 @@
+-- `state::anchor::begun` meets its contract: the start and the life end that it works out are those of the definition. Assumes nothing.
+use Prim.Native.Nat.{ℕ, _+_, _*_}
+use mathlib.Core.Path.{_≡_, sym, ap, ap₂, _∙_}
+use mathlib.Core.Bool.{not, _&&_}
+use mathlib.Core.List.{List}
+use native.Mathlib.Omega.{arith}
+use lib.ListN.{length, getD}
+use Rattle.numbers.specs.Numbers.{given, atMost}
+use Rattle.slice.specs.Record.{recordSize, periodOf, keyOf, viewOf, Slice}
+use Rattle.slice.specs.declared.record.Period.{Period}
+use Rattle.slice.specs.declared.record.Key.{Key}
+use Rattle.slice.specs.declared.record.Life.{Life}
+use Rattle.table.specs.Header.{strideOf, recordAt}
+use Rattle.history.specs.Parts.{tells}
+use Rattle.state.specs.Steps.{nothing, originOf, lifeAt, startAt}
+use Rattle.state.specs.declared.anchor.Start.{Start}
+use Rattle.state.proofs.Walks.{size-at, place-most}
+use Rattle.state.proofs.Anchors.{endedAt, found-ended, found-going}
+use borrow.Author.Needs.{needs}
+use borrow.Author.Needs.{needs}
+use Rattle.state.proofs.anchor.begun.Statement.{statement}
+use Rattle.state.proofs.anchor.begun.Tie as tie
+
+abbrev asked : tie.After-key-of → tie.Start
+asked c = c .before .before .before .before .before
+
+abbrev anchor : tie.After-key-of → List ℕ
+anchor c = let a = asked c .args in recordAt (recordSize (strideOf (a .permanent .now))) (a .place) (a .permanent .now)
+
+read : (c : tie.After-key-of) → c .before .before .record-at .result .now ≡ anchor c
+read c = let a = asked c .args in c .before .before .record-at .ensures .0 ∙ ap (λ (n : ℕ). recordAt (32 + 8 * n) (a .place) (a .permanent .now)) (c .before .before .before .stride-of .ensures)
+
+abbrev made : tie.After-key-of → Start
+made c = record { based = asked c .args .based; place = asked c .args .place; begin = c .before .period-of .result .begin; sequence = c .key-of .result .sequence }
+
+made-is : (c : tie.After-key-of) → made c ≡ startAt (asked c .args .based) (asked c .args .place) (anchor c)
+made-is c =
+    ap₂ (λ (p : Period) (k : Key). record { based = asked c .args .based; place = asked c .args .place; begin = p .begin; sequence = k .sequence })
+    (c .before .period-of .ensures ∙ ap periodOf (read c)) (c .key-of .ensures ∙ ap keyOf (read c))
+
+seen : (c : tie.After-key-of) → viewOf (c .before .before .before .stride-of .result) (c .before .before .record-at .result .now) ≡ viewOf (strideOf (asked c .args .permanent .now)) (anchor c)
+seen c = ap (λ (n : ℕ). viewOf n (c .before .before .record-at .result .now)) (c .before .before .before .stride-of .ensures) ∙ ap (viewOf (strideOf (asked c .args .permanent .now))) (read c)
+
+ended : (c : tie.After-life-at) → let a = c .before .before .before .before .before .before .before .before .before .before .args in
+    c .life-at .result .end ≡ endedAt (a .instant) (a .permanent .now) (getD (a .t3 .marks) 9 nothing) (a .based) (a .place)
+ended c =
+    let a = c .before .before .before .before .before .before .before .before .before .before .args in
+    let k = c .before .before .before .before .before in
+    let m = getD (a .t3 .marks) 9 nothing in
+    ap (λ (l : Life). l .end) (c .life-at .ensures
+    ∙ (ap (λ (n : ℕ). lifeAt (32 + 8 * n) (a .permanent .now) (c .before .origin .result)) (c .before .before .before .before .before .before .before .before .stride-of .ensures)
+    ∙ ap (lifeAt (recordSize (strideOf (a .permanent .now))) (a .permanent .now)) (c .before .origin .ensures ∙ ap₂ (λ (s : Start) (v : Slice). originOf s (tells 9 v) m) (made-is k) (seen k))))
+
+test : (c : tie.After-at-most) → let end = c .before .before .before .life-at .result .end in (not (c .before .is-none .result) && c .at-most .result) ≡ (given end && atMost end (c .before .before .before .before .before .before .before .before .before .before .before .before .before .args .instant))
+test c = ap₂ (λ x y. not x && y) (c .before .is-none .ensures) (c .at-most .ensures)
+
+origin-requires : tie.Need-origin-requires
+origin-requires c κs =
+    let a = c .before .before .before .before .before .before .before .before .args in
+    let t = a .permanent .now in
+    (ap length (read (c .before .before .before)) ∙ (size-at t (c .before .before .before .before .before .before .before .before .pre .1 .0) (a .place) (c .before .before .before .before .before .before .before .before .pre .1 .1) ∙ sym (ap recordSize (c .before .before .before .before .before .before .stride-of .ensures))), (omega arith, place-most t (c .before .before .before .before .before .before .before .before .pre .1 .0) (a .place) (c .before .before .before .before .before .before .before .before .pre .1 .1)))
+
+returns : tie.Need-returns
+returns c = found-ended _ _ _ _ _ _ (ended (c .before .before .before .before)) (sym (test (c .before)) ∙ c .if1 .taken)
+
+returns-2 : tie.Need-returns-2
+returns-2 c = found-going _ _ _ _ _ _ (ended (c .before .before .before .before)) (made (c .before .before .before .before .before .before .before .before .before)) (made-is (c .before .before .before .before .before .before .before .before .before)) (sym (test (c .before)) ∙ c .if1 .left)
+
+pub begun-spec : {M : Type 1} → statement M
+begun-spec =
+    tie.close
+    (tie.spec
+    (λ c κs. search needs)
+    (λ c. search needs)
+    (λ c. search needs)
+    (λ c κs. search needs)
+    (λ c κs. search needs)
+    (λ c κs. search needs)
+    (λ c. search needs)
+    origin-requires
+    (λ c κs. search needs)
+    (λ c κs. search needs)
+    (λ c κs. search needs)
+    returns
+    returns-2)

@@ -1,0 +1,22 @@
+-- `state::survey::is_due` meets its contract: the tests are those of the definition. Assumes nothing.
+use mathlib.Core.Path.{sym, _∙_}
+use borrow.Author.Tests.{not-true, not-false}
+use Rattle.slice.specs.Record.{viewOf}
+use Rattle.history.specs.Counted.{holds}
+use Rattle.history.specs.Parts.{due}
+use borrow.Author.Needs.{needs}
+use borrow.Author.Needs.{needs}
+use Rattle.state.proofs.survey.is_due.Statement.{statement}
+use Rattle.state.proofs.survey.is_due.Tie as tie
+
+returns : tie.Need-returns
+unfolding due
+returns c = λ stride. rw (sym (c .before .is-counted .ensures stride) ∙ not-true _ (c .if1 .taken))
+
+returns-2 : tie.Need-returns-2
+unfolding due holds viewOf
+returns-2 c = λ stride. rw (sym (c .before .before .before .before .is-counted .ensures stride) ∙ not-false _ (c .before .before .before .if1 .left), c .at-most .ensures, c .before .before .period-of .ensures)
+
+pub is-due-spec : {M : Type 1} → statement M
+is-due-spec =
+    tie.close (tie.spec (λ c κs. search needs) returns (λ c κs. search needs) (λ c κs. search needs) returns-2)

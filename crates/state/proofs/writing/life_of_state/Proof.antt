@@ -1,0 +1,69 @@
+-- `state::writing::life_of_state` meets its contract: each life time of the record that tells it last. Assumes nothing.
+use Prim.Native.Nat.{ℕ, _+_, _*_, _<_}
+use mathlib.Core.Path.{_≡_, sym, ap, ap₂, _∙_}
+use mathlib.Core.List.{List}
+use native.Mathlib.Omega.{arith}
+use lib.ListN.{length, getD}
+use Rattle.slice.specs.Record.{recordSize, viewOf, Slice}
+use Rattle.slice.specs.declared.record.Life.{Life}
+use Rattle.table.specs.Header.{strideOf, recordAt}
+use Rattle.history.specs.Parts.{tells}
+use Rattle.state.specs.Steps.{nothing, originOf, lifeAt}
+use Rattle.state.proofs.Walks.{size-at, place-most}
+use borrow.Author.Needs.{needs}
+use borrow.Author.Needs.{needs}
+use Rattle.state.proofs.writing.life_of_state.Statement.{statement}
+use Rattle.state.proofs.writing.life_of_state.Tie as tie
+
+abbrev table : tie.After-record-at → List ℕ
+table k = k .before .before .before .args .permanent .now
+
+abbrev anchor : tie.After-record-at → List ℕ
+anchor k = recordAt (recordSize (strideOf (table k))) (k .before .before .before .args .start .place) (table k)
+
+read : (k : tie.After-record-at) → k .record-at .result .now ≡ anchor k
+read k = k .record-at .ensures .0 ∙ ap (λ (n : ℕ). recordAt (32 + 8 * n) (k .before .before .before .args .start .place) (table k)) (k .before .stride-of .ensures)
+
+seen : (k : tie.After-record-at) → viewOf (k .before .stride-of .result) (k .record-at .result .now) ≡ viewOf (strideOf (table k)) (anchor k)
+seen k = ap (λ (n : ℕ). viewOf n (k .record-at .result .now)) (k .before .stride-of .ensures) ∙ ap (viewOf (strideOf (table k))) (read k)
+
+sized : (k : tie.After-record-at) → length (k .record-at .result .now) ≡ recordSize (k .before .stride-of .result)
+sized k = ap length (read k) ∙ (size-at (table k) (k .before .before .before .pre .1 .0) (k .before .before .before .args .start .place) (k .before .before .before .pre .1 .1) ∙ sym (ap recordSize (k .before .stride-of .ensures)))
+
+small : (k : tie.After-record-at) → k .before .before .before .args .start .place < 256
+small k = place-most (table k) (k .before .before .before .pre .1 .0) (k .before .before .before .args .start .place) (k .before .before .before .pre .1 .1)
+
+-- a life time as it was found, part by part
+told : (k : tie.After-record-at) (q : ℕ) (l : Life) (o : ℕ) → l ≡ lifeAt (32 + 8 * (k .before .stride-of .result)) (table k) o
+    → o ≡ originOf (k .before .before .before .args .start) (tells q (viewOf (k .before .stride-of .result) (k .record-at .result .now))) (getD (k .before .before .before .args .t3 .marks) q nothing)
+    → l ≡ lifeAt (recordSize (strideOf (table k))) (table k) (originOf (k .before .before .before .args .start) (tells q (viewOf (strideOf (table k)) (anchor k))) (getD (k .before .before .before .args .t3 .marks) q nothing))
+told k q l o e f =
+    e ∙ (ap (λ (n : ℕ). lifeAt (32 + 8 * n) (table k) o) (k .before .stride-of .ensures)
+    ∙ ap (lifeAt (recordSize (strideOf (table k))) (table k)) (f ∙ ap (λ (v : Slice). originOf (k .before .before .before .args .start) (tells q v) (getD (k .before .before .before .args .t3 .marks) q nothing)) (seen k)))
+
+origin-requires : tie.Need-origin-requires
+origin-requires c κs = (sized (c .before .before), (omega arith, small (c .before .before)))
+
+origin-requires-2 : tie.Need-origin-requires-2
+origin-requires-2 c κs = (sized (c .before .before .before .before), (omega arith, small (c .before .before .before .before)))
+
+returns : tie.Need-returns
+returns c =
+    let k = c .before .before .before .before .before .before .before .before in
+    ap₂ (λ (b e : Life). record { begin = b .begin; end = e .end }) (told k 8 (c .before .before .before .before .life-at .result) (c .before .before .before .before .before .origin .result) (c .before .before .before .before .life-at .ensures) (c .before .before .before .before .before .origin .ensures)) (told k 9 (c .before .before .life-at2 .result) (c .before .before .before .origin2 .result) (c .before .before .life-at2 .ensures) (c .before .before .before .origin2 .ensures))
+
+pub life-of-state-spec : {M : Type 1} → statement M
+life-of-state-spec =
+    tie.close
+    (tie.spec
+    (λ c κs. search needs)
+    (λ c. search needs)
+    (λ c. search needs)
+    (λ c κs. search needs)
+    (λ c. search needs)
+    (λ c. search needs)
+    origin-requires
+    (λ c κs. search needs)
+    origin-requires-2
+    (λ c κs. search needs)
+    returns)

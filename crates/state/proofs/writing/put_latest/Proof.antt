@@ -1,0 +1,70 @@
+-- `state::writing::put_latest` meets its contract: of the temporary table where a TEMPDELTA mentions it, else of the permanent one. Assumes nothing.
+use Prim.Native.Nat.{ℕ, _+_, _*_}
+use mathlib.Core.Path.{_≡_, sym, ap, _∙_}
+use mathlib.Core.List.{List}
+use native.Mathlib.Omega.{arith}
+use lib.ListN.{length}
+use borrow.Author.Tests.{eq-eqb, ne-eqb}
+use Rattle.octets.specs.Writing.{pasted}
+use Rattle.slice.specs.Record.{recordSize, viewOf, Slice}
+use Rattle.table.specs.Header.{strideOf, recordAt}
+use Rattle.history.specs.Parts.{tells}
+use Rattle.state.specs.Steps.{originOf, saidAt, propertyBy}
+use Rattle.state.proofs.Walks.{size-at, place-most}
+use Rattle.state.proofs.Settled.{origin-known}
+use borrow.Author.Needs.{needs}
+use borrow.Author.Needs.{needs}
+use Rattle.state.proofs.writing.put_latest.Statement.{statement}
+use Rattle.state.proofs.writing.put_latest.Tie as tie
+
+abbrev table : tie.After-record-at → List ℕ
+table k = k .before .before .before .before .before .before .before .args .permanent .now
+
+read : (k : tie.After-record-at) → k .record-at .result .now ≡ recordAt (recordSize (strideOf (table k))) (k .before .before .before .before .before .before .before .args .start .place) (table k)
+read k = k .record-at .ensures .0 ∙ ap (λ (n : ℕ). recordAt (32 + 8 * n) (k .before .before .before .before .before .before .before .args .start .place) (table k)) (k .before .stride-of .ensures)
+
+seen : (k : tie.After-record-at) → viewOf (k .before .stride-of .result) (k .record-at .result .now) ≡ viewOf (strideOf (table k)) (recordAt (recordSize (strideOf (table k))) (k .before .before .before .before .before .before .before .args .start .place) (table k))
+seen k = ap (λ (n : ℕ). viewOf n (k .record-at .result .now)) (k .before .stride-of .ensures) ∙ ap (viewOf (strideOf (table k))) (read k)
+
+told : (c : tie.After-origin) → let a = c .before .before .before .before .before .before .before .before .args in
+    c .origin .result ≡ originOf (a .start) (tells (a .n) (viewOf (strideOf (table (c .before))) (recordAt (recordSize (strideOf (table (c .before)))) (a .start .place) (table (c .before))))) (a .under)
+told c = let a = c .before .before .before .before .before .before .before .before .args in c .origin .ensures ∙ ap (λ (v : Slice). originOf (a .start) (tells (a .n) v) (a .under)) (seen (c .before))
+
+returns : tie.Need-returns
+unfolding propertyBy
+returns c =
+    let a = c .before .before .before .before .before .before .before .before .before .args in
+    c .before .before .put-property .ensures ∙ rw (ne-eqb _ _ (c .before .before .before .before .if1 .taken))
+
+origin-requires : tie.Need-origin-requires
+origin-requires c κs =
+    let s = c .before .before .before .before .before .before .before in
+    let p = s .pre .1 .0 in
+    (ap length (read c) ∙ (size-at (table c) p (s .args .start .place) (s .pre .1 .1 .1 .0) ∙ sym (ap recordSize (c .before .stride-of .ensures))), (omega arith, place-most (table c) p (s .args .start .place) (s .pre .1 .1 .1 .0)))
+
+put-property-requires-2 : tie.Need-put-property-requires-2
+put-property-requires-2 c κs =
+    let s = c .before .before .before .before .before .before .before .before .before in
+    (s .pre .0, (s .pre .1 .0, rw (told (c .before)) (origin-known _ _ _ _ (s .pre .1 .1 .1 .0) (s .pre .1 .1 .1 .1 .0))))
+
+returns-2 : tie.Need-returns-2
+unfolding propertyBy
+returns-2 c =
+    let a = c .before .before .before .before .before .before .before .before .before .before .before .before .args in
+    c .before .before .put-property2 .ensures ∙ (ap (λ (k : ℕ). pasted (a .«record» .now) (32 + a .n * strideOf (a .permanent .now)) (saidAt (a .permanent .now) (a .n) k)) (told (c .before .before .before .before)) ∙ rw (eq-eqb _ _ (c .before .before .before .before .before .before .before .if1 .left)))
+
+pub put-latest-spec : {M : Type 1} → statement M
+put-latest-spec =
+    tie.close
+    (tie.spec
+    (λ c κs. search needs)
+    (λ c. search needs)
+    returns
+    (λ c κs. search needs)
+    (λ c. search needs)
+    (λ c. search needs)
+    (λ c κs. search needs)
+    origin-requires
+    put-property-requires-2
+    (λ c. search needs)
+    returns-2)

@@ -1,0 +1,4 @@
+pub mod Written
+pub mod Asking
+pub mod Steps
+pub mod Fourteen

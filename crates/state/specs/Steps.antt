@@ -1,0 +1,172 @@
+-- What the steps of a question answer. No public promise cites this file. Assumes nothing.
+use Prim.Native.Nat.{ℕ, zero, suc, _+_, _-_, _*_, _≤_, _<_}
+use mathlib.Core.Bool.{Bool, true, false, cond, not, _&&_, _||_}
+use mathlib.Core.List.{List, [], _∷_, _++_}
+use mathlib.Core.Option.{Option, none, some}
+use lib.ListN.{getD, take, drop}
+use lib.Dec.{ltb, leb, eqb}
+use Rattle.laws.specs.Orders.{lexLess}
+use Rattle.numbers.specs.Numbers as numbers
+use Rattle.numbers.specs.Numbers.{given, before, atMost}
+use Rattle.numbers.specs.declared.Instant.{Instant}
+use Rattle.slice.specs.declared.record.Life.{Life}
+use Rattle.slice.specs.Record.{baseline, recordSize, periodOf, lifeOf, sequenceOf, Slice, viewOf}
+use Rattle.table.specs.Header.{strideOf, recordAt}
+use Rattle.history.specs.Counted.{counts, holds}
+use Rattle.history.specs.Parts.{tells, Placed}
+use Rattle.state.specs.Written.{nilUnknown}
+use Rattle.state.specs.declared.mention.Mark.{Mark}
+use Rattle.state.specs.declared.question.Place.{Place}
+use Rattle.state.specs.declared.question.Place.the-variants as place
+use Rattle.state.specs.declared.anchor.Few.{Few}
+use Rattle.state.specs.declared.anchor.Few.the-variants.{Zero, One, More}
+use Rattle.state.specs.declared.anchor.Start.{Start}
+use Rattle.state.specs.declared.anchor.Standing.{Standing}
+use Rattle.state.specs.declared.anchor.Standing.the-variants.{From, Refused}
+
+-- ---- mentions
+-- no mention yet
+abbrev pub nothing : Mark
+nothing = record { from = 0; instant = record { 0 = 0 }; sequence = record { 0 = 0 } }
+
+-- a new mention where it is one and none is later
+unfoldable pub laterOf : Bool → Mark → Mark → Mark
+laterOf given′ n m = cond (given′ && (eqb (m .from) 0 || lexLess (m .instant .0) (m .sequence .0) (n .instant .0) (n .sequence .0))) n m
+
+-- q is a part from one up to another; or a life time
+unfoldable pub among : ℕ → ℕ → ℕ → Bool
+among from to q = leb from q && ltb q to
+
+unfoldable pub wanted : ℕ → ℕ → ℕ → Bool
+wanted from to q = among from to q || among 8 10 q
+
+-- the mark of a part that is looked at, or is not
+unfoldable pub noted : Bool → Bool → Mark → Mark → Mark
+noted looked given′ n m = cond looked (laterOf given′ n m) m
+
+-- the mark of the slice at a place, by the instant at which it applies
+abbrev pub markAt : Instant → ℕ → Slice → Mark
+markAt t i d = record { from = i + 1; instant = t; sequence = d .sequence }
+
+abbrev pub markOf : ℕ → Slice → Mark
+markOf i d = markAt (d .period .begin) i d
+
+abbrev pub markBy : (Slice → Instant) → Option Placed → Mark
+markBy when none = nothing
+markBy when (some b) = markAt (when (b .slice)) (b .place) (b .slice)
+
+abbrev pub markDue : Option Placed → Mark
+markDue o = markBy (λ d. d .period .begin) o
+
+abbrev pub markValid : Instant → Option Placed → Mark
+markValid t o = markBy (λ d. t) o
+
+-- ---- the anchor
+-- a BASELINE that holds at t, by its own record
+unfoldable pub standsAlone : Instant → Slice → Bool
+standsAlone t b = counts baseline b && holds t (b .period .begin) (b .period .end)
+
+abbrev pub oneMore : ℕ → Few → Few
+oneMore i Zero = One i
+oneMore i (One j) = More
+oneMore i More = More
+
+-- those that pass a test, from place i on
+abbrev pub tallyFrom : (Slice → Bool) → ℕ → Few → List Slice → Few
+tallyFrom test i few [] = few
+tallyFrom test i few (d ∷ ds) = tallyFrom test (suc i) (cond (test d) (oneMore i few) few) ds
+
+-- the place of one lies below a number
+abbrev pub Below : ℕ → Few → Type 0
+Below n Zero = Unit {0}
+Below n (One i) = i < n
+Below n More = Unit {0}
+
+-- a mention comes after an anchor
+unfoldable pub afterStart : Start → Mark → Bool
+afterStart s m =
+    cond (s .based) (before (s .begin) (m .instant))
+    (lexLess (s .begin .0) (s .sequence .0) (m .instant .0) (m .sequence .0))
+
+-- who tells a part last, by its place and one
+unfoldable pub originOf : Start → Bool → Mark → ℕ
+originOf s told m = cond (not (eqb (m .from) 0) && afterStart s m) (m .from) (cond told (suc (s .place)) 0)
+
+-- ---- the state's standing
+-- the life time that a record of a table gives, by its place and one
+abbrev pub lifeAt : ℕ → List ℕ → ℕ → Life
+lifeAt size t zero = record { begin = numbers.none; end = numbers.none }
+lifeAt size t (suc i) = lifeOf (recordAt size i t)
+
+abbrev pub startAt : Bool → ℕ → List ℕ → Start
+startAt based i r = record { based = based; place = i; begin = periodOf r .begin; sequence = sequenceOf r }
+
+abbrev pub refusedStanding : ℕ → Standing
+refusedStanding n = Refused (record { number = n })
+
+unfoldable pub unlessEnded : Instant → Instant → Start → Standing
+unlessEnded t end s = cond (given end && atMost end t) (refusedStanding 22) (From s)
+
+-- from the record at a place, with the latest mention of a life end
+unfoldable pub foundFrom : Instant → List ℕ → Mark → Bool → ℕ → Standing
+foundFrom t p m based i =
+    let size = recordSize (strideOf p) in
+    let r = recordAt size i p in
+    let s = startAt based i r in
+    unlessEnded t (lifeAt size p (originOf s (tells 9 (viewOf (strideOf p) r)) m) .end) s
+
+abbrev pub standingOf : Instant → List ℕ → Few → Few → List Mark → Standing
+standingOf t p Zero Zero ms = refusedStanding 20
+standingOf t p Zero (One i) ms = foundFrom t p (getD ms 9 nothing) false i
+standingOf t p Zero More ms = refusedStanding 21
+standingOf t p (One i) o ms = foundFrom t p (getD ms 9 nothing) true i
+standingOf t p More o ms = refusedStanding 21
+
+-- ---- the record of a state
+-- the life times that the marks tell
+abbrev pub lifeFrom : List ℕ → Start → List Mark → Life
+lifeFrom p s ms =
+    let size = recordSize (strideOf p) in
+    let a = viewOf (strideOf p) (recordAt size (s .place) p) in
+    record {
+      begin = lifeAt size p (originOf s (tells 8 a) (getD ms 8 nothing)) .begin;
+      end = lifeAt size p (originOf s (tells 9 a) (getD ms 9 nothing)) .end;
+    }
+
+-- the bytes of property n that a record of a table says, by its place and one
+abbrev pub saidAt : List ℕ → ℕ → ℕ → List ℕ
+saidAt t n zero = nilUnknown (strideOf t)
+saidAt t n (suc i) = take (strideOf t) (drop (32 + n * strideOf t) (recordAt (recordSize (strideOf t)) i t))
+
+-- property n as a mark of each table tells it; as the marks of both tables do
+unfoldable pub propertyBy : List ℕ → List ℕ → Start → Mark → Mark → ℕ → List ℕ
+propertyBy p t s under over n =
+    cond (eqb (over .from) 0)
+    (saidAt p n (originOf s (tells n (viewOf (strideOf p) (recordAt (recordSize (strideOf p)) (s .place) p))) under))
+    (saidAt t n (over .from))
+
+unfoldable pub propertyFrom : List ℕ → List ℕ → Start → List Mark → List Mark → ℕ → List ℕ
+propertyFrom p t s ms os n =
+    cond (eqb (getD os n nothing .from) 0)
+    (saidAt p n (originOf s (tells n (viewOf (strideOf p) (recordAt (recordSize (strideOf p)) (s .place) p))) (getD ms n nothing)))
+    (saidAt t n (getD os n nothing .from))
+
+-- the first n of some runs of bytes, one behind the other
+abbrev pub runOf : (ℕ → List ℕ) → ℕ → List ℕ
+runOf f zero = []
+runOf f (suc n) = runOf f n ++ f n
+
+-- the marks of the properties name records that are there
+abbrev pub Known : ℕ → List Mark → Type 0
+Known count ms = (q : ℕ) → q < 8 → getD ms q nothing .from ≤ count
+
+-- ---- where a property begins
+-- property n of a record, by the record's place and one
+abbrev pub placeFrom : List ℕ → ℕ → ℕ → ℕ
+placeFrom t from n = 32 + (from - 1) * recordSize (strideOf t) + 32 + n * strideOf t
+
+-- by the latest mention in each table
+unfoldable pub placedBy : List ℕ → List ℕ → Start → Mark → Mark → ℕ → Place
+placedBy p t s under over n =
+    let k = originOf s (tells n (viewOf (strideOf p) (recordAt (recordSize (strideOf p)) (s .place) p))) under in
+    cond (eqb (over .from) 0) (cond (eqb k 0) place.Unmentioned (place.Permanent (placeFrom p k n))) (place.Temporary (placeFrom t (over .from) n))
