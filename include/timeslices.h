@@ -3,10 +3,11 @@
  *
  * Link with libtimeslices.a (rt staticlib timeslices). Nothing is asked of the caller beyond valid memory: each pointer
  * leads to as many bytes as the length beside it says, which may be 0 (then any pointer but NULL will do), and no other
- * argument overlaps a table that is lent for writing. Every content of that memory and every other argument is answered.
- * No call keeps a pointer, allocates, or needs another call to have been made before it.
+ * argument overlaps a table or a record that is lent for writing. Every content of that memory and every other argument is
+ * answered. No call keeps a pointer, allocates, or needs another call to have been made before it.
  *
- * A refused call changes no byte. The refusal numbers are those of the specification.
+ * A refused call changes no byte. The refusal numbers are those of the specification. An instant is a number of seconds from
+ * 2000-01-01T00:00:00Z; 4294967295 means none.
  */
 #ifndef TIMESLICES_H
 #define TIMESLICES_H
@@ -23,6 +24,17 @@ typedef struct {
     uint32_t kind;
     uint32_t number;
 } tsl_answer;
+
+/*
+ * Where a property stands. kind 0: refused, and number says why. kind 1 and 2: size bytes from byte at on, in the table that
+ * the kind tells. What nothing is said of is 0.
+ */
+typedef struct {
+    uint32_t kind;
+    uint32_t number;
+    uint64_t at;
+    uint64_t size;
+} tsl_part;
 
 /*
  * Makes the table of a side (0 permanent, 1 temporary) and a feature (its identifier, 16 bytes), with no record. Writes the
@@ -64,6 +76,78 @@ tsl_answer tsl_new_table(uint8_t *table, size_t table_len, uint8_t side, const u
  *     18   kind and sequence number are new, and the table is full
  */
 tsl_answer tsl_arrive(uint8_t *table, size_t table_len, const uint8_t *slice, size_t slice_len);
+
+/*
+ * Writes the permanent state at an instant into a record of 224 bytes: kind 4, flags, correction and sequence number 0, begin
+ * the instant, end none, the life times of the state, and its eight properties, one that nothing mentions as nil, unknown.
+ * Every byte of the record is written, or none is.
+ *
+ * kind 1   written
+ * kind 0   refused, number; where several apply, the first of these
+ *      1   permanent_len is under 32
+ *      2   the letters of the table are wrong, or its side is not 0
+ *      3   the version of the table is not 1
+ *      4   header bytes 24 to 31 are not zero
+ *      5   the count is over the room of the table
+ *      6   some record in the table fails 11 to 16 of an arrival
+ *      7   the records are not in strictly rising order of kind, then sequence number
+ *     19   the instant is none
+ *     23   record_len is not 224
+ *     21   two anchors at the instant: two or more BASELINEs hold, or none does and two or more PERMDELTAs have opened
+ *     20   no state is known at the instant: no BASELINE holds, and no PERMDELTA has opened
+ *     22   withdrawn: the life end of the state is given and at most the instant
+ */
+tsl_answer tsl_permanent_state(const uint8_t *permanent, size_t permanent_len, uint32_t instant, uint8_t *record,
+                               size_t record_len);
+
+/*
+ * Writes the snapshot at an instant into a record of 224 bytes, in the same way: the permanent state with the TEMPDELTAs that
+ * are valid then.
+ *
+ * kind 1   written
+ * kind 0   refused, number; where several apply, the first of these, 1 to 7 of the permanent table before 1 to 7 of the
+ *          temporary one
+ *      1   a table is under 32 bytes
+ *      2   the letters of a table are wrong, or the side of the permanent one is not 0, of the temporary one not 1
+ *      3   the version of a table is not 1
+ *      4   header bytes 24 to 31 of a table are not zero
+ *      5   the count is over the room of a table
+ *      6   some record in a table fails 11 to 16 of an arrival
+ *      7   the records of a table are not in strictly rising order of kind, then sequence number
+ *      8   the tables name different features
+ *     19   the instant is none
+ *     23   record_len is not 224
+ *     21   two anchors at the instant: two or more BASELINEs hold, or none does and two or more PERMDELTAs have opened
+ *     20   no state is known at the instant: no BASELINE holds, and no PERMDELTA has opened
+ *     22   withdrawn: the life end of the state is given and at most the instant
+ */
+tsl_answer tsl_snapshot(const uint8_t *permanent, size_t permanent_len, const uint8_t *temporary, size_t temporary_len,
+                        uint32_t instant, uint8_t *record, size_t record_len);
+
+/*
+ * Where the bytes of a property (0 to 7) at an instant stand: in the table whose record mentioned it last. The part lies
+ * within that table, and its bytes are those of the property in the snapshot.
+ *
+ * kind 1   permanent: size bytes of the permanent table, from byte at on
+ * kind 2   temporary: size bytes of the temporary table, from byte at on
+ * kind 3   unmentioned: a state is known, and nothing mentions the property
+ * kind 0   refused, number; where several apply, the first of these, 1 to 7 of the permanent table before 1 to 7 of the
+ *          temporary one
+ *      1   a table is under 32 bytes
+ *      2   the letters of a table are wrong, or the side of the permanent one is not 0, of the temporary one not 1
+ *      3   the version of a table is not 1
+ *      4   header bytes 24 to 31 of a table are not zero
+ *      5   the count is over the room of a table
+ *      6   some record in a table fails 11 to 16 of an arrival
+ *      7   the records of a table are not in strictly rising order of kind, then sequence number
+ *      8   the tables name different features
+ *     19   the instant is none, or the property is over 7
+ *     21   two anchors at the instant: two or more BASELINEs hold, or none does and two or more PERMDELTAs have opened
+ *     20   no state is known at the instant: no BASELINE holds, and no PERMDELTA has opened
+ *     22   withdrawn: the life end of the state is given and at most the instant
+ */
+tsl_part tsl_property(const uint8_t *permanent, size_t permanent_len, const uint8_t *temporary, size_t temporary_len,
+                      uint32_t instant, uint8_t property);
 
 #ifdef __cplusplus
 }

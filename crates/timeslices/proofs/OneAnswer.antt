@@ -1,4 +1,4 @@
--- The promise of each exported function asks nothing and leaves one answer and one content of the lent table. Assumes nothing.
+-- The promise of each exported function asks nothing and leaves one answer and one content of the lent memory. Assumes nothing.
 use mathlib.Core.Path.{refl}
 use Rattle.laws.specs.OneAnswer.{OneAnswer}
 use Rattle.laws.proofs.OneAnswer.{same, both}
@@ -6,9 +6,24 @@ use Rattle.timeslices.proofs.tsl_new_table.Kinds as tsl-new-table-k
 use Rattle.timeslices.proofs.tsl_new_table.Reads as tsl-new-table
 use Rattle.timeslices.proofs.tsl_arrive.Kinds as tsl-arrive-k
 use Rattle.timeslices.proofs.tsl_arrive.Reads as tsl-arrive
+use Rattle.timeslices.proofs.tsl_permanent_state.Kinds as tsl-permanent-state-k
+use Rattle.timeslices.proofs.tsl_permanent_state.Reads as tsl-permanent-state
+use Rattle.timeslices.proofs.tsl_snapshot.Kinds as tsl-snapshot-k
+use Rattle.timeslices.proofs.tsl_snapshot.Reads as tsl-snapshot
+use Rattle.timeslices.proofs.tsl_property.Kinds as tsl-property-k
+use Rattle.timeslices.proofs.tsl_property.Reads as tsl-property
 
 pub tsl-new-table-one : OneAnswer tsl-new-table-k.ps tsl-new-table-k.r tsl-new-table.Asked tsl-new-table.Learnt
 tsl-new-table-one κs a = (tt, λ z z' ws ws' p q. (same (p .0) (q .0), both (same (p .1) (q .1)) refl))
 
 pub tsl-arrive-one : OneAnswer tsl-arrive-k.ps tsl-arrive-k.r tsl-arrive.Asked tsl-arrive.Learnt
 tsl-arrive-one κs a = (tt, λ z z' ws ws' p q. (same (p .0) (q .0), both (same (p .1) (q .1)) refl))
+
+pub tsl-permanent-state-one : OneAnswer tsl-permanent-state-k.ps tsl-permanent-state-k.r tsl-permanent-state.Asked tsl-permanent-state.Learnt
+tsl-permanent-state-one κs a = (tt, λ z z' ws ws' p q. (same (p .0) (q .0), both refl (both refl (both (same (p .1) (q .1)) refl))))
+
+pub tsl-snapshot-one : OneAnswer tsl-snapshot-k.ps tsl-snapshot-k.r tsl-snapshot.Asked tsl-snapshot.Learnt
+tsl-snapshot-one κs a = (tt, λ z z' ws ws' p q. (same (p .0) (q .0), both refl (both refl (both refl (both (same (p .1) (q .1)) refl)))))
+
+pub tsl-property-one : OneAnswer tsl-property-k.ps tsl-property-k.r tsl-property.Asked tsl-property.Learnt
+tsl-property-one κs a = (tt, λ z z' ws ws' p q. (same p q, refl))

@@ -1,18 +1,36 @@
-// The interface for C: each answer of the library as two numbers. Nothing is asked of the caller beyond
+// The interface for C: each answer of the library as numbers. Nothing is asked of the caller beyond
 // memory that is there. include/timeslices.h says the same in C.
 ghost use mathlib.Core.Path.{_≡_};
 ghost use Rattle.table.specs.Arriving.{creationOf, created, arrivalOf, arrivedAt};
-ghost use Rattle.timeslices.specs.Answers.{creationNumbers, arrivalNumbers};
+ghost use Rattle.state.specs.Asking.{permanentStateOf, snapshotOf, afterState, afterSnapshot, placeOf};
+ghost use Rattle.timeslices.specs.Answers.{instantOf, creationNumbers, arrivalNumbers, outcomeNumbers, partAt, placeNumbers};
+use numbers::Instant;
+use state::Outcome;
+use state::Place;
+use state::locate;
+use state::permanent_state;
+use state::snapshot;
 use table::Arrival;
 use table::Creation;
 use table::arrive;
 use table::new_table;
+use table::stride_of;
 
 // An answer as C has it. Kind 0: refused, and `number` says why. The other kinds are each call's own.
 #[repr(C)]
 pub struct Answer {
     pub kind: u32,
     pub number: u32,
+}
+
+// Where a property stands, as C has it. Kind 0: refused, and `number` says why; 1 in the permanent table, 2
+// in the temporary one, from byte `at` on, `size` bytes; 3 unmentioned. What nothing is said of is 0.
+#[repr(C)]
+pub struct Part {
+    pub kind: u32,
+    pub number: u32,
+    pub at: u64,
+    pub size: u64,
 }
 
 // Makes a table of a side and a feature that holds no record: kind 1. Refused: 1 and 2.
@@ -45,6 +63,88 @@ pub extern "C" fn tsl_arrive(table: &mut [u8], slice: &[u8]) -> Answer
         Arrival::Refused(refusal) => Answer {
             kind: 0,
             number: refusal.number as u32,
+        },
+    }
+}
+
+// The numbers of what a question answers that writes a record: 1 written.
+fn told(outcome: Outcome) -> Answer
+    ensures { λ r. ⌜ r ≡ outcomeNumbers outcome ⌝ }
+{
+    match outcome {
+        Outcome::Written => Answer { kind: 1, number: 0 },
+        Outcome::Refused(refusal) => Answer {
+            kind: 0,
+            number: refusal.number as u32,
+        },
+    }
+}
+
+// Writes the permanent state at an instant into a record of the table's size: kind 1. Refused, with every
+// byte as it was: 1 to 7 and 19 to 23.
+#[no_mangle]
+pub extern "C" fn tsl_permanent_state(permanent: &[u8], instant: u32, record: &mut [u8]) -> Answer
+    ensures answer { λ r. ⌜ r ≡ outcomeNumbers (permanentStateOf (now (permanent .entry)) (instantOf instant) (now («record» .entry))) ⌝ }
+    ensures buffer { λ r. ⌜ now («record» .exit) ≡ afterState (permanentStateOf (now (permanent .entry)) (instantOf instant) (now («record» .entry))) (now (permanent .entry)) (instantOf instant) (now («record» .entry)) ⌝ }
+{
+    told(permanent_state(permanent, Instant(instant), record))
+}
+
+// Writes the snapshot at an instant into a record of the tables' size: kind 1. Refused, with every byte as
+// it was: 1 to 8 and 19 to 23.
+#[no_mangle]
+pub extern "C" fn tsl_snapshot(
+    permanent: &[u8],
+    temporary: &[u8],
+    instant: u32,
+    record: &mut [u8],
+) -> Answer
+    ensures answer { λ r. ⌜ r ≡ outcomeNumbers (snapshotOf (now (permanent .entry)) (now (temporary .entry)) (instantOf instant) (now («record» .entry))) ⌝ }
+    ensures buffer { λ r. ⌜ now («record» .exit) ≡ afterSnapshot (snapshotOf (now (permanent .entry)) (now (temporary .entry)) (instantOf instant) (now («record» .entry))) (now (permanent .entry)) (now (temporary .entry)) (instantOf instant) (now («record» .entry)) ⌝ }
+{
+    told(snapshot(permanent, temporary, Instant(instant), record))
+}
+
+// A property's part of a table, from a place on.
+fn part_at(kind: u32, table: &[u8], place: usize) -> Part
+    ensures { λ r. ⌜ r ≡ partAt kind (now (table .entry)) place ⌝ }
+{
+    let number = 0;
+    let at = place as u64;
+    let size = stride_of(table) as u64;
+    Part {
+        kind,
+        number,
+        at,
+        size,
+    }
+}
+
+// Which table has the bytes of a property at an instant, and where: 1 permanent, 2 temporary, 3
+// unmentioned. Refused: 1 to 8 and 19 to 22.
+#[no_mangle]
+pub extern "C" fn tsl_property(
+    permanent: &[u8],
+    temporary: &[u8],
+    instant: u32,
+    property: u8,
+) -> Part
+    ensures { λ r. ⌜ r ≡ placeNumbers (now (permanent .entry)) (now (temporary .entry)) (placeOf (now (permanent .entry)) (now (temporary .entry)) (instantOf instant) property) ⌝ }
+{
+    match locate(permanent, temporary, Instant(instant), property) {
+        Place::Permanent(place) => part_at(1, permanent, place),
+        Place::Temporary(place) => part_at(2, temporary, place),
+        Place::Unmentioned => Part {
+            kind: 3,
+            number: 0,
+            at: 0,
+            size: 0,
+        },
+        Place::Refused(refusal) => Part {
+            kind: 0,
+            number: refusal.number as u32,
+            at: 0,
+            size: 0,
         },
     }
 }

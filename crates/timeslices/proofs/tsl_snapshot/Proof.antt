@@ -1,0 +1,31 @@
+use Prim.Native.Nat.{ℕ}
+use mathlib.Core.Path.{_≡_, ap, _∙_}
+use mathlib.Core.List.{List}
+use Rattle.numbers.specs.declared.Instant.{Instant}
+use Rattle.state.specs.Asking.{snapshotOf, afterSnapshot}
+use Rattle.state.specs.declared.answer.Outcome.{Outcome}
+use Rattle.timeslices.specs.Answers.{outcomeNumbers}
+use Rattle.timeslices.specs.declared.Answer.{Answer}
+use borrow.Author.Needs.{needs}
+use Rattle.timeslices.proofs.tsl_snapshot.Statement.{statement}
+use Rattle.timeslices.proofs.tsl_snapshot.Tie as tie
+
+-- the answer by its numbers, and the record after it
+numbered : (p t : List ℕ) (i : Instant) (b s : List ℕ) (o : Outcome) (a : Answer) → a ≡ outcomeNumbers o → (o ≡ snapshotOf p t i b) × (s ≡ afterSnapshot o p t i b)
+    → (a ≡ outcomeNumbers (snapshotOf p t i b)) × (s ≡ afterSnapshot (snapshotOf p t i b) p t i b)
+numbered p t i b s o a e h = (e ∙ ap outcomeNumbers (h .0), rw (h .0) at (h .1))
+
+snapshot-requires : tie.Need-snapshot-requires
+snapshot-requires c κs = search needs
+
+told-requires : tie.Need-told-requires
+told-requires c κs = search needs
+
+same-length : tie.Need-same-length
+same-length c = search needs
+
+returns : tie.Need-returns
+returns c = numbered _ _ _ _ _ _ _ (c .told .ensures) (c .before .before .before .snapshot .ensures)
+
+pub tsl-snapshot-spec : {M : Type 1} → statement M
+tsl-snapshot-spec = tie.close (tie.spec snapshot-requires told-requires same-length returns)
