@@ -1,5 +1,5 @@
 # make test     the gate: proves, tries the wrong programs, runs the programs, compares with the second program
-# make sample   proves and builds the program `vectors`, and asks it about samples/feed and samples/slices
+# make sample   proves and builds the program `vectors`, and asks it about samples/feed, samples/states and samples/slices
 # make lib      proves the C interface and writes target/staticlib/libtimeslices.a, for x86-64
 # make compare  plays random calls to the library and to the second program for a minute (x86-64)
 # make bench    measures the library against plain Rust (x86-64)
@@ -14,6 +14,7 @@ sample:
 	@echo 'proving and building: about three minutes' >&2
 	@mkdir -p target && { rt check vectors >target/sample.log 2>&1 || { cat target/sample.log; exit 1; }; }
 	@samples/ask samples/feed
+	@samples/ask samples/states
 	@samples/ask samples/slices
 
 lib:

@@ -1,5 +1,7 @@
 //! Measures a library against the plain program of this one, on the same bytes in one run.
 
+mod questions;
+
 use crate::library::{Library, Reply, PLAIN};
 use crate::random::Random;
 use crate::record::{Kind, Side, RECORD_BYTES};
@@ -20,9 +22,10 @@ const TIME: Duration = Duration::from_micros(1500);
 /// The head of what is printed.
 const HEAD: &str = "\
 Tables of 2,048 records together are called in turn; they are copied anew outside the timed part.
-pass: one sum over all bytes of the table.
+count: the records of each table. A record is counted once for each call that looks at it.
+pass: one sum over all bytes of the tables, for each call.
 
-records  call            count    ours ns   plain ns  ours/plain  ours ns/record  plain ns/record  ours/pass";
+records  call             count    ours ns   plain ns  ours/plain  ours ns/record  plain ns/record  ours/pass";
 
 /// What the records of a table are like.
 #[derive(Clone, Copy, Debug)]
@@ -38,6 +41,12 @@ enum Make {
 enum Call {
     NewTable(Feature),
     Arrive(Vec<u8>),
+    /// The permanent state at an instant.
+    State(u32),
+    /// The snapshot with a temporary table at an instant.
+    Snapshot(Vec<u8>, u32),
+    /// All eight properties, one after the other, with a temporary table at an instant.
+    Properties(Vec<u8>, u32),
 }
 
 /// A table, and the call that is made on it.
@@ -142,14 +151,32 @@ fn uses(make: Make, count: usize, seed: u64) -> [Use; 6] {
     ]
 }
 
+/// Makes a table and a question for each scene, in their order.
+fn asks(make: Make, count: usize, seed: u64) -> [Use; 3] {
+    let (tables, instant) = questions::asked(make, count, seed);
+    let temporary = tables.temporary;
+    [
+        Call::State(instant),
+        Call::Snapshot(temporary.clone(), instant),
+        Call::Properties(temporary, instant),
+    ]
+    .map(|call| Use {
+        table: tables.permanent.clone(),
+        call,
+    })
+}
+
 /// Makes the scenes on tables of so many records.
 fn scenes(make: Make, count: usize) -> Vec<Scene> {
-    let sets: Vec<[Use; 6]> = (0..(RECORDS / count) as u64)
-        .map(|seed| uses(make, count, seed))
+    let sets: Vec<Vec<Use>> = (0..(RECORDS / count) as u64)
+        .map(|seed| {
+            let (uses, asks) = (uses(make, count, seed), asks(make, count, seed));
+            uses.into_iter().chain(asks).collect()
+        })
         .collect();
     let scene = |index: usize, name, kind, number, repeats| Scene {
         name,
-        right: Reply { kind, number },
+        right: Reply::new(kind, number),
         repeats,
         records: count,
         uses: sets.iter().map(|set| set[index].clone()).collect(),
@@ -161,6 +188,9 @@ fn scenes(make: Make, count: usize) -> Vec<Scene> {
         scene(3, "Superseded", 3, 0, 16),
         scene(4, "Repeat", 4, 0, 16),
         scene(5, "new table", 1, 0, 256),
+        scene(6, "permanent state", 1, 0, 16),
+        scene(7, "snapshot", 1, 0, 16),
+        scene(8, "eight properties", 1, 0, 4),
     ]
 }
 
@@ -170,6 +200,49 @@ impl Use {
         match &self.call {
             Call::NewTable(feature) => (library.new_table)(table, 0, black_box(feature)),
             Call::Arrive(slice) => (library.arrive)(table, black_box(slice)),
+            Call::State(instant) => {
+                let mut record = [0; RECORD_BYTES];
+                let reply = (library.permanent_state)(table, *instant, &mut record);
+                black_box(record);
+                reply
+            }
+            Call::Snapshot(temporary, instant) => {
+                let mut record = [0; RECORD_BYTES];
+                let temporary = black_box(temporary);
+                let reply = (library.snapshot)(table, temporary, *instant, &mut record);
+                black_box(record);
+                reply
+            }
+            Call::Properties(temporary, instant) => {
+                let mut is_refused = false;
+                for property in 0..8 {
+                    let temporary = black_box(temporary);
+                    let reply = (library.property)(table, temporary, *instant, property);
+                    is_refused |= black_box(reply).kind == 0;
+                }
+                Reply::new(u32::from(!is_refused), 0)
+            }
+        }
+    }
+
+    /// Answers the sum of all bytes that the call looks at.
+    fn pass(&self, table: &[u8]) -> u64 {
+        match &self.call {
+            Call::NewTable(_) | Call::Arrive(_) | Call::State(_) => sum(table),
+            Call::Snapshot(temporary, _) => sum(table) + sum(black_box(temporary)),
+            Call::Properties(temporary, _) => (0..8)
+                .map(|_| sum(black_box(table)) + sum(black_box(temporary)))
+                .sum(),
+        }
+    }
+
+    /// Answers how many tables the call looks at, one after the other.
+    fn tables(&self) -> usize {
+        match &self.call {
+            Call::NewTable(_) => 0,
+            Call::Arrive(_) | Call::State(_) => 1,
+            Call::Snapshot(..) => 2,
+            Call::Properties(..) => 16,
         }
     }
 }
@@ -213,8 +286,8 @@ impl Scene {
                     black_box(one.call(library, table));
                 }));
             }
-            pass.push(self.time(&mut tables, |_, table| {
-                black_box(sum(table));
+            pass.push(self.time(&mut tables, |one, table| {
+                black_box(one.pass(table));
             }));
         }
         Times {
@@ -227,12 +300,13 @@ impl Scene {
     /// Answers the line of the scene.
     fn row(&self, make: Make, times: &Times) -> String {
         let Times { ours, plain, pass } = times;
-        let (count, ratio) = (self.records as f64, ours / plain);
-        let start = format!("{make:?}    {:14}  {:5}", self.name, self.records);
+        let (tables, ratio) = (self.uses[0].tables(), ours / plain);
+        let start = format!("{make:?}    {:16} {:5}", self.name, self.records);
+        let count = (tables * self.records) as f64;
         let (one, other) = (ours / count, plain / count);
-        let each = match self.uses[0].call {
-            Call::NewTable(_) => format!("{:>14}  {:>15}  {:>9}", "-", "-", "-"),
-            Call::Arrive(_) => format!("{one:14.1}  {other:15.1}  {:9.2}", ours / pass),
+        let each = match tables {
+            0 => format!("{:>14}  {:>15}  {:>9}", "-", "-", "-"),
+            _ => format!("{one:14.1}  {other:15.1}  {:9.2}", ours / pass),
         };
         format!("{start}  {ours:9.1}  {plain:9.1}  {ratio:10.2}  {each}")
     }
@@ -273,7 +347,7 @@ mod tests {
     fn everything_is_measured() {
         assert!(run(&PLAIN, 1));
         let wrong = Library {
-            arrive: |_, _| Reply { kind: 0, number: 1 },
+            arrive: |_, _| Reply::new(0, 1),
             ..PLAIN
         };
         assert!(!run(&wrong, 1));

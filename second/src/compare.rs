@@ -4,8 +4,10 @@
 use crate::arrival;
 use crate::library::{Library, Reply};
 use crate::play::{round, Call, Player};
+use crate::question;
 use crate::table::{self, MOST_RECORDS};
-use crate::vectors::format::{fill_lines, line};
+use crate::tables::{Question, Tables};
+use crate::vectors::format::{fill_lines, instant_line, line, record_line, EXCHANGE};
 use std::collections::BTreeMap;
 use std::fmt;
 use std::time::{Duration, Instant};
@@ -31,13 +33,14 @@ struct Lent {
     length: usize,
 }
 
-/// A call that the library answered, or left the bytes, otherwise than this program.
+/// A call that the library answered, or left the bytes, otherwise than this program: of the place that
+/// the call may change, and of what it is handed beside it, the first byte that is not as it should be.
 pub struct Difference {
     lines: Vec<String>,
     right: Reply,
     reply: Reply,
-    table: Option<isize>,
-    handed: Option<isize>,
+    place: Option<isize>,
+    handed: Vec<Option<isize>>,
 }
 
 /// A library, and how its calls were answered so far.
@@ -97,9 +100,11 @@ fn summary(tally: &Tally) -> String {
 
 /// Answers what a reply to a letter says.
 fn word(letter: char, reply: Reply) -> String {
-    let accepted = match letter {
-        'm' => ["made"; 4],
-        _ => ["added", "replaced", "superseded", "repeat"],
+    let accepted: &[&str] = match letter {
+        'm' => &["made"],
+        'a' => &["added", "replaced", "superseded", "repeat"],
+        'v' => &["permanent", "temporary", "unmentioned"],
+        _ => &["written"],
     };
     match (reply.kind as usize).checked_sub(1) {
         None => format!("{letter} {}", reply.number),
@@ -120,25 +125,39 @@ fn play(library: &Library, seed: u64, tally: &mut Tally) -> Result<(), Box<Diffe
 impl Player for Comparison<'_> {
     type Fault = Box<Difference>;
 
-    /// Puts a call to the library and to this program; the table becomes what it is after it.
-    fn call(&mut self, table: &mut Vec<u8>, call: &Call) -> Result<(), Box<Difference>> {
-        let before = table.clone();
-        let right = call.answer(table);
+    /// Puts a call to the library and to this program; the place becomes what it is after it.
+    fn call(&mut self, place: &mut Vec<u8>, call: &Call) -> Result<(), Box<Difference>> {
+        let before = place.clone();
+        let right = call.answer(place);
         self.calls += 1;
         let mut lent = Lent::new(&before, GUARD + self.calls % 8);
-        let handed = Lent::new(call.handed(), GUARD + self.calls / 8 % 8);
-        let reply = call.put(self.library, lent.part_mut(), handed.part());
-        *self.tally.entry((call.letter(), right)).or_insert(0) += 1;
-        let (table, handed) = (lent.first_other(table), handed.first_other(call.handed()));
-        if reply == right && table.is_none() && handed.is_none() {
-            return Ok(());
-        }
-        Err(Box::new(Difference {
-            lines: [fill_lines(&before, 0), call.lines()].concat(),
+        let shifts = [self.calls / 8 % 8, self.calls / 64 % 8];
+        let handed: Vec<Lent> = call
+            .handed()
+            .iter()
+            .zip(shifts)
+            .map(|(bytes, shift)| Lent::new(bytes, GUARD + shift))
+            .collect();
+        let reply = call.put(self.library, lent.part_mut(), &handed);
+        let counted = Reply::new(right.kind, right.number);
+        *self.tally.entry((call.letter(), counted)).or_insert(0) += 1;
+        let handed = handed.iter().zip(call.handed());
+        let difference = Difference {
+            lines: vec![],
             right,
             reply,
-            table,
-            handed,
+            place: lent.first_other(place),
+            handed: handed
+                .map(|(lent, bytes)| lent.first_other(bytes))
+                .collect(),
+        };
+        if difference.is_none() {
+            return Ok(());
+        }
+        let lines = call.lines(&before);
+        Err(Box::new(Difference {
+            lines,
+            ..difference
         }))
     }
 }
@@ -149,43 +168,118 @@ impl Call<'_> {
         match self {
             Call::Create { .. } => 'm',
             Call::Arrive { .. } => 'a',
+            Call::Ask { question, .. } => match question {
+                Question::State => 'g',
+                Question::Snapshot => 'n',
+                Question::Property(_) => 'v',
+            },
         }
     }
 
-    /// Answers the bytes that the call is handed beside the table.
-    fn handed(&self) -> &[u8] {
+    /// Answers the bytes that the call is handed beside the place that it may change.
+    fn handed(&self) -> Vec<&[u8]> {
         match self {
-            Call::Create { feature, .. } => &feature[..],
-            Call::Arrive { slice } => slice,
+            Call::Create { feature, .. } => vec![&feature[..]],
+            Call::Arrive { slice } => vec![slice],
+            Call::Ask {
+                tables, question, ..
+            } => match question {
+                Question::State => vec![&tables.permanent],
+                _ => vec![&tables.permanent, &tables.temporary],
+            },
         }
     }
 
-    /// Answers the lines that ask this in the vectors, once the table is made.
-    fn lines(&self) -> Vec<String> {
-        match self {
-            Call::Create { side, feature } => vec![line('f', &feature[..]), line('m', &[*side])],
-            Call::Arrive { slice } => vec![line('b', slice), line('a', &[])],
-        }
-    }
-
-    /// Does the call to a table by this program's own rules.
-    fn answer(&self, table: &mut [u8]) -> Reply {
+    /// Answers the lines that ask this in the vectors, of a place that held these bytes.
+    fn lines(&self, place: &[u8]) -> Vec<String> {
+        let table = fill_lines(place, 0);
         match self {
             Call::Create { side, feature } => {
-                Reply::of_creation(table::create(table, *side, feature))
+                [table, vec![line('f', &feature[..]), line('m', &[*side])]].concat()
             }
-            Call::Arrive { slice } => Reply::of_arrival(arrival::arrive(table, slice)),
+            Call::Arrive { slice } => [table, vec![line('b', slice), line('a', &[])]].concat(),
+            Call::Ask {
+                tables,
+                instant,
+                question,
+            } => {
+                let property: &[u8] = match question {
+                    Question::Property(number) => &[*number],
+                    _ => &[],
+                };
+                let value = place.first().copied().unwrap_or(0);
+                let asking = vec![
+                    instant_line(*instant),
+                    record_line(place.len(), value),
+                    line(self.letter(), property),
+                ];
+                [tables.lines(), asking].concat()
+            }
         }
     }
 
-    /// Puts the call to a library, with what it is handed in a place of its own.
-    fn put(&self, library: &Library, table: &mut [u8], handed: &[u8]) -> Reply {
+    /// Does the call to a place by this program's own rules.
+    fn answer(&self, place: &mut [u8]) -> Reply {
+        match self {
+            Call::Create { side, feature } => {
+                Reply::of_writing(table::create(place, *side, feature))
+            }
+            Call::Arrive { slice } => Reply::of_arrival(arrival::arrive(place, slice)),
+            Call::Ask {
+                tables,
+                instant,
+                question,
+            } => tables.answer(*instant, *question, place),
+        }
+    }
+
+    /// Puts the call to a library, with what it is handed in places of their own.
+    fn put(&self, library: &Library, place: &mut [u8], handed: &[Lent]) -> Reply {
+        let handed: Vec<&[u8]> = handed.iter().map(Lent::part).collect();
         match self {
             Call::Create { side, .. } => {
-                let feature = handed.try_into().expect("a feature is handed");
-                (library.new_table)(table, *side, feature)
+                let feature = handed[0].try_into().expect("a feature is handed");
+                (library.new_table)(place, *side, feature)
             }
-            Call::Arrive { .. } => (library.arrive)(table, handed),
+            Call::Arrive { .. } => (library.arrive)(place, handed[0]),
+            Call::Ask {
+                instant, question, ..
+            } => match *question {
+                Question::State => (library.permanent_state)(handed[0], *instant, place),
+                Question::Snapshot => (library.snapshot)(handed[0], handed[1], *instant, place),
+                Question::Property(number) => {
+                    (library.property)(handed[0], handed[1], *instant, number)
+                }
+            },
+        }
+    }
+}
+
+impl Tables {
+    /// Answers the lines that make the two tables in the vectors.
+    fn lines(&self) -> Vec<String> {
+        let exchange = vec![EXCHANGE.to_string()];
+        let (table, other) = (
+            fill_lines(&self.permanent, 0),
+            fill_lines(&self.temporary, 0),
+        );
+        [other, exchange, table].concat()
+    }
+
+    /// Answers a question by this program's own rules.
+    fn answer(&self, instant: u32, asked: Question, record: &mut [u8]) -> Reply {
+        let (permanent, temporary) = (&self.permanent[..], &self.temporary[..]);
+        match asked {
+            Question::State => {
+                Reply::of_writing(question::permanent_state(permanent, instant, record))
+            }
+            Question::Snapshot => {
+                Reply::of_writing(question::snapshot(permanent, temporary, instant, record))
+            }
+            Question::Property(number) => {
+                let part = question::property(permanent, temporary, instant, number);
+                Reply::of_part(part.map(|part| part.map(|part| (part.side, part.place))))
+            }
         }
     }
 }
@@ -226,14 +320,24 @@ impl Lent {
     }
 }
 
+impl Difference {
+    /// Answers whether there is none.
+    fn is_none(&self) -> bool {
+        self.reply == self.right && self.place.is_none() && self.handed.iter().all(Option::is_none)
+    }
+}
+
 impl fmt::Display for Difference {
     /// Writes the call as the vectors have it, both answers, and where the bytes differ.
     fn fmt(&self, out: &mut fmt::Formatter) -> fmt::Result {
         writeln!(out, "{}", self.lines.join("\n"))?;
         writeln!(out, "expected {:?}, got {:?}", self.right, self.reply)?;
-        for (name, place) in [("table", self.table), ("slice or feature", self.handed)] {
-            if let Some(place) = place {
-                writeln!(out, "{name}: byte {place} is not as expected")?;
+        if let Some(byte) = self.place {
+            writeln!(out, "table or record: byte {byte} is not as expected")?;
+        }
+        for (index, byte) in self.handed.iter().enumerate() {
+            if let Some(byte) = byte {
+                writeln!(out, "handed part {index}: byte {byte} is not as expected")?;
             }
         }
         Ok(())
@@ -267,7 +371,12 @@ mod tests {
         assert_eq!(
             words.join(", "),
             "a 1, a 2, a 3, a 4, a 5, a 6, a 7, a 9, a 10, a 11, a 12, a 13, a 14, a 15, a 16, a 17, a 18, \
-             a added, a replaced, a superseded, a repeat, m 1, m 2, m made"
+             a added, a replaced, a superseded, a repeat, \
+             g 1, g 2, g 3, g 4, g 5, g 6, g 7, g 19, g 20, g 21, g 22, g 23, g written, \
+             m 1, m 2, m made, \
+             n 1, n 2, n 3, n 4, n 5, n 6, n 7, n 8, n 19, n 20, n 21, n 22, n 23, n written, \
+             v 1, v 2, v 3, v 4, v 5, v 6, v 7, v 8, v 19, v 20, v 21, v 22, \
+             v permanent, v temporary, v unmentioned"
         );
     }
 
@@ -283,10 +392,7 @@ mod tests {
         };
         let miscounting = Library {
             arrive: |table, slice| match (PLAIN.arrive)(table, slice) {
-                Reply { number: 17, .. } => Reply {
-                    kind: 0,
-                    number: 18,
-                },
+                Reply { number: 17, .. } => Reply::new(0, 18),
                 reply => reply,
             },
             ..PLAIN
@@ -301,6 +407,34 @@ mod tests {
         assert!(is_same(&PLAIN) && run(&PLAIN, Limit::Rounds(1), 1));
         assert!(!run(&miscounting, Limit::Seconds(5), 1));
         assert!(![forgetful, miscounting, untidy].iter().any(is_same));
+    }
+
+    /// A snapshot of another instant, a part of the other table and a record that is touched are found.
+    #[test]
+    fn wrong_answers_about_an_instant_are_found() {
+        let untimely = Library {
+            snapshot: |permanent, temporary, instant, record| {
+                (PLAIN.snapshot)(permanent, temporary, instant.saturating_add(1), record)
+            },
+            ..PLAIN
+        };
+        let misplacing = Library {
+            property: |permanent, temporary, instant, property| match (PLAIN.property)(
+                permanent, temporary, instant, property,
+            ) {
+                reply @ Reply { kind: 2, .. } => Reply { kind: 1, ..reply },
+                reply => reply,
+            },
+            ..PLAIN
+        };
+        let meddling = Library {
+            permanent_state: |permanent, instant, record| {
+                record.iter_mut().skip(224).for_each(|byte| *byte = 0);
+                (PLAIN.permanent_state)(permanent, instant, record)
+            },
+            ..PLAIN
+        };
+        assert!(![untimely, misplacing, meddling].iter().any(is_same));
     }
 
     /// A byte beside the lent part is found.

@@ -1,16 +1,20 @@
-//! A library under test: its two calls, however they are reached.
+//! A library under test: its calls, however they are reached.
 
 use crate::arrival::Arrival;
 use crate::plain;
+use crate::property::PROPERTY_BYTES;
+use crate::record::Side;
 use crate::refusal::Refusal;
 use crate::table::Feature;
 
-/// An answer as the C interface has it: kind 0 is a refusal with its number.
-#[repr(C)]
+/// An answer as the C interface has it: kind 0 is a refusal with its number. A part has a place and a
+/// size; no other answer does.
 #[derive(Clone, Copy, Debug, PartialEq, Eq, PartialOrd, Ord)]
 pub struct Reply {
     pub kind: u32,
     pub number: u32,
+    pub at: u64,
+    pub size: u64,
 }
 
 /// The calls of a library.
@@ -18,41 +22,68 @@ pub struct Reply {
 pub struct Library {
     pub new_table: fn(&mut [u8], u8, &Feature) -> Reply,
     pub arrive: fn(&mut [u8], &[u8]) -> Reply,
+    pub permanent_state: fn(&[u8], u32, &mut [u8]) -> Reply,
+    pub snapshot: fn(&[u8], &[u8], u32, &mut [u8]) -> Reply,
+    pub property: fn(&[u8], &[u8], u32, u8) -> Reply,
 }
 
 /// The plain program of this one.
 pub const PLAIN: Library = Library {
-    new_table: |table, side, feature| Reply::of_creation(plain::new_table(table, side, feature)),
+    new_table: |table, side, feature| Reply::of_writing(plain::new_table(table, side, feature)),
     arrive: |table, slice| Reply::of_arrival(plain::arrive(table, slice)),
+    permanent_state: |permanent, instant, record| {
+        Reply::of_writing(plain::permanent_state(permanent, instant, record))
+    },
+    snapshot: |permanent, temporary, instant, record| {
+        Reply::of_writing(plain::snapshot([permanent, temporary], instant, record))
+    },
+    property: |permanent, temporary, instant, property| {
+        Reply::of_part(plain::property([permanent, temporary], instant, property))
+    },
 };
 
 impl Reply {
-    /// Answers the reply that accepts, of a kind.
-    fn accept(kind: u32) -> Reply {
-        Reply { kind, number: 0 }
+    /// Answers the reply of a kind, with a refusal's number.
+    pub const fn new(kind: u32, number: u32) -> Reply {
+        Reply {
+            kind,
+            number,
+            at: 0,
+            size: 0,
+        }
     }
 
     /// Answers the reply that refuses.
     fn refuse(refusal: Refusal) -> Reply {
-        Reply {
-            kind: 0,
-            number: refusal.number().into(),
-        }
+        Reply::new(0, refusal.number().into())
     }
 
-    /// Answers the reply of a new table.
-    pub fn of_creation(made: Result<(), Refusal>) -> Reply {
-        made.map_or_else(Reply::refuse, |()| Reply::accept(1))
+    /// Answers the reply of a new table, a permanent state or a snapshot.
+    pub fn of_writing(written: Result<(), Refusal>) -> Reply {
+        written.map_or_else(Reply::refuse, |()| Reply::new(1, 0))
     }
 
     /// Answers the reply of an arrival.
     pub fn of_arrival(arrival: Result<Arrival, Refusal>) -> Reply {
         arrival.map_or_else(Reply::refuse, |arrival| {
-            Reply::accept(match arrival {
+            let kind = match arrival {
                 Arrival::Added => 1,
                 Arrival::Replaced => 2,
                 Arrival::Superseded => 3,
                 Arrival::Repeat => 4,
+            };
+            Reply::new(kind, 0)
+        })
+    }
+
+    /// Answers the reply of a property question, by the table of the part and its place.
+    pub fn of_part(part: Result<Option<(Side, usize)>, Refusal>) -> Reply {
+        part.map_or_else(Reply::refuse, |part| {
+            part.map_or(Reply::new(3, 0), |(side, place)| Reply {
+                kind: 1 + u32::from(side.byte()),
+                number: 0,
+                at: place as u64,
+                size: PROPERTY_BYTES as u64,
             })
         })
     }

@@ -3,23 +3,129 @@
 use crate::library::{Library, Reply};
 use crate::table::Feature;
 
+/// An answer as C has it.
+#[repr(C)]
+struct Answer {
+    kind: u32,
+    number: u32,
+}
+
+/// The answer to a property question as C has it.
+#[repr(C)]
+struct Part {
+    kind: u32,
+    number: u32,
+    at: u64,
+    size: u64,
+}
+
 unsafe extern "C" {
-    fn tsl_new_table(table: *mut u8, table_len: usize, side: u8, feature: *const u8) -> Reply;
-    fn tsl_arrive(table: *mut u8, table_len: usize, slice: *const u8, slice_len: usize) -> Reply;
+    fn tsl_new_table(table: *mut u8, table_len: usize, side: u8, feature: *const u8) -> Answer;
+    fn tsl_arrive(table: *mut u8, table_len: usize, slice: *const u8, slice_len: usize) -> Answer;
+    fn tsl_permanent_state(
+        permanent: *const u8,
+        permanent_len: usize,
+        instant: u32,
+        record: *mut u8,
+        record_len: usize,
+    ) -> Answer;
+    fn tsl_snapshot(
+        permanent: *const u8,
+        permanent_len: usize,
+        temporary: *const u8,
+        temporary_len: usize,
+        instant: u32,
+        record: *mut u8,
+        record_len: usize,
+    ) -> Answer;
+    fn tsl_property(
+        permanent: *const u8,
+        permanent_len: usize,
+        temporary: *const u8,
+        temporary_len: usize,
+        instant: u32,
+        property: u8,
+    ) -> Part;
 }
 
 /// The linked library.
-pub const LINKED: Library = Library { new_table, arrive };
+pub const LINKED: Library = Library {
+    new_table,
+    arrive,
+    permanent_state,
+    snapshot,
+    property,
+};
+
+impl Answer {
+    /// Answers the reply that says the same.
+    fn reply(self) -> Reply {
+        Reply::new(self.kind, self.number)
+    }
+}
 
 /// Calls the library for a new table.
 fn new_table(table: &mut [u8], side: u8, feature: &Feature) -> Reply {
     // SAFETY: the pointers and the length are those of live parts that nobody else uses meanwhile;
     // the feature has the 16 bytes that the call reads.
-    unsafe { tsl_new_table(table.as_mut_ptr(), table.len(), side, feature.as_ptr()) }
+    unsafe { tsl_new_table(table.as_mut_ptr(), table.len(), side, feature.as_ptr()) }.reply()
 }
 
 /// Calls the library for an arrival.
 fn arrive(table: &mut [u8], slice: &[u8]) -> Reply {
     // SAFETY: both pointers and lengths are those of live parts that do not overlap.
-    unsafe { tsl_arrive(table.as_mut_ptr(), table.len(), slice.as_ptr(), slice.len()) }
+    unsafe { tsl_arrive(table.as_mut_ptr(), table.len(), slice.as_ptr(), slice.len()) }.reply()
+}
+
+/// Calls the library for a permanent state.
+fn permanent_state(permanent: &[u8], instant: u32, record: &mut [u8]) -> Reply {
+    // SAFETY: both pointers and lengths are those of live parts that do not overlap.
+    unsafe {
+        tsl_permanent_state(
+            permanent.as_ptr(),
+            permanent.len(),
+            instant,
+            record.as_mut_ptr(),
+            record.len(),
+        )
+    }
+    .reply()
+}
+
+/// Calls the library for a snapshot.
+fn snapshot(permanent: &[u8], temporary: &[u8], instant: u32, record: &mut [u8]) -> Reply {
+    // SAFETY: the pointers and lengths are those of live parts; the record overlaps neither table.
+    unsafe {
+        tsl_snapshot(
+            permanent.as_ptr(),
+            permanent.len(),
+            temporary.as_ptr(),
+            temporary.len(),
+            instant,
+            record.as_mut_ptr(),
+            record.len(),
+        )
+    }
+    .reply()
+}
+
+/// Calls the library for a property.
+fn property(permanent: &[u8], temporary: &[u8], instant: u32, property: u8) -> Reply {
+    // SAFETY: both pointers and lengths are those of live parts, which are only read.
+    let part = unsafe {
+        tsl_property(
+            permanent.as_ptr(),
+            permanent.len(),
+            temporary.as_ptr(),
+            temporary.len(),
+            instant,
+            property,
+        )
+    };
+    Reply {
+        kind: part.kind,
+        number: part.number,
+        at: part.at,
+        size: part.size,
+    }
 }

@@ -1,12 +1,15 @@
-//! The second program: the property layout, the property rule, the slice check, tables and arrivals,
-//! written from the specification alone, and the vectors that go with them. Where the library is
-//! linked it is compared and measured.
+//! The second program: the property layout, the property rule, the slice check, tables, arrivals and
+//! the questions about an instant, written from the specification alone, and the vectors that go with
+//! them. Where the library is linked it is compared and measured.
 
 mod arrival;
 #[cfg(any(test, feature = "linked"))]
 mod bench;
 #[cfg(any(test, feature = "linked"))]
 mod compare;
+#[cfg(test)]
+mod examples;
+mod histories;
 #[cfg(any(test, feature = "linked"))]
 mod library;
 #[cfg(feature = "linked")]
@@ -15,12 +18,15 @@ mod linked;
 mod plain;
 mod play;
 mod property;
+mod question;
 mod random;
 mod record;
 mod refusal;
 mod slice;
+mod state;
 mod supply;
 mod table;
+mod tables;
 mod vectors;
 
 use std::io::Write;

@@ -1,10 +1,15 @@
-//! The two calls once more, in place on the bytes, as a plain fast program has them. The library is
-//! measured against these; they are held against `table` and `arrival` in the tests.
+//! The calls once more, in place on the bytes, as a plain fast program has them. The library is
+//! measured against these; they are held against `table`, `arrival` and `question` in the tests.
+
+mod state;
+
+pub use state::{permanent_state, property, snapshot};
 
 use crate::arrival::Arrival;
 use crate::refusal::Refusal;
 use crate::table::Feature;
 use std::cmp::Ordering;
+use std::ops::RangeInclusive;
 
 const HEADER: usize = 32;
 const MOST: usize = 256;
@@ -28,7 +33,7 @@ pub fn new_table(table: &mut [u8], side: u8, feature: &Feature) -> Result<(), Re
 
 /// Brings a slice to a table.
 pub fn arrive(table: &mut [u8], slice: &[u8]) -> Result<Arrival, Refusal> {
-    let count = check_table(table)?;
+    let count = check_table(table, 0..=1)?.len();
     let record = check_slice(slice, &table[8..24], table[3])?;
     let (records, _) = table[HEADER..].as_chunks_mut::<224>();
     let room = records.len().min(MOST);
@@ -57,11 +62,11 @@ fn correct(stored: &mut Record, record: &Record) -> Result<Arrival, Refusal> {
     }
 }
 
-/// Answers how many records a table counts, or the first refusal, 1 to 7.
-fn check_table(table: &[u8]) -> Result<usize, Refusal> {
+/// Answers the records that a table of one of the sides counts, or the first refusal, 1 to 7.
+fn check_table(table: &[u8], sides: RangeInclusive<u8>) -> Result<&[Record], Refusal> {
     let (header, rest) = table.split_first_chunk::<HEADER>().ok_or(Refusal::Short)?;
     let side = header[3];
-    if header[..3] != *b"TSL" || side > 1 {
+    if header[..3] != *b"TSL" || !sides.contains(&side) {
         return Err(Refusal::Name);
     }
     if header[4..6] != [0, 1] {
@@ -75,8 +80,9 @@ fn check_table(table: &[u8]) -> Result<usize, Refusal> {
     if count > records.len().min(MOST) {
         return Err(Refusal::Count);
     }
-    check_records(&records[..count], side)?;
-    Ok(count)
+    let records = &records[..count];
+    check_records(records, side)?;
+    Ok(records)
 }
 
 /// Answers 6 where a record is not sound, or else 7 where they do not rise, in one pass.

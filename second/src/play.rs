@@ -1,31 +1,53 @@
 //! Rounds of random, edge and damaged calls, put to whoever plays them.
 
+use crate::histories::History;
 use crate::random::Random;
-use crate::record::{Side, RECORD_BYTES};
+use crate::record::{Side, NONE, RECORD_BYTES};
 use crate::supply;
 use crate::table::{Feature, HEADER_BYTES};
+use crate::tables::{Question, Tables};
 use crate::vectors::sample::FEATURE;
 
-/// A call to a table.
+/// A call that may change a place: a table, or for a question the record.
 pub enum Call<'a> {
-    Create { side: u8, feature: &'a Feature },
-    Arrive { slice: &'a [u8] },
+    Create {
+        side: u8,
+        feature: &'a Feature,
+    },
+    Arrive {
+        slice: &'a [u8],
+    },
+    Ask {
+        tables: &'a Tables,
+        instant: u32,
+        question: Question,
+    },
 }
 
 /// Who a call is put to.
 pub trait Player {
     type Fault;
 
-    /// Takes a call; the table becomes what it is after it. A fault ends the round.
-    fn call(&mut self, table: &mut Vec<u8>, call: &Call) -> Result<(), Self::Fault>;
+    /// Takes a call; the place becomes what it is after it. A fault ends the round.
+    fn call(&mut self, place: &mut Vec<u8>, call: &Call) -> Result<(), Self::Fault>;
 }
 
-/// A round under way.
+/// Two tables and the instant that is asked about.
+struct Asked<'a> {
+    tables: &'a Tables,
+    instant: u32,
+}
+
+/// A round under way, and the record that the last question left.
 struct Round<'a, P: Player> {
     player: &'a mut P,
     random: Random,
     most: usize,
+    record: Vec<u8>,
 }
+
+/// The small histories of a round.
+const HISTORIES: usize = 240;
 
 /// Plays one round of every sort of call, at tables of at most so many records, 40 or more.
 pub fn round<P: Player>(player: &mut P, seed: u64, most: usize) -> Result<(), P::Fault> {
@@ -33,11 +55,14 @@ pub fn round<P: Player>(player: &mut P, seed: u64, most: usize) -> Result<(), P:
         player,
         random: Random::new(seed),
         most,
+        record: vec![],
     };
     round.creations()?;
     round.lone_arrivals()?;
     round.damaged_bytes()?;
-    round.delivery()
+    round.delivery()?;
+    round.histories()?;
+    round.crowd()
 }
 
 impl<P: Player> Round<'_, P> {
@@ -148,5 +173,91 @@ impl<P: Player> Round<'_, P> {
             }
         }
         Ok(())
+    }
+
+    /// Plays a question about two tables at an instant.
+    fn ask(&mut self, asked: &Asked, question: Question) -> Result<(), P::Fault> {
+        let Asked { tables, instant } = *asked;
+        let call = Call::Ask {
+            tables,
+            instant,
+            question,
+        };
+        self.player.call(&mut self.record, &call)
+    }
+
+    /// Plays every question at each instant that matters in small histories, and odd questions.
+    fn histories(&mut self) -> Result<(), P::Fault> {
+        let mut history = History::new(&mut self.random);
+        for _ in 0..HISTORIES {
+            if self.random.below(16) == 0 {
+                history = History::new(&mut self.random);
+            }
+            history.change(&mut self.random);
+            for instant in history.tables().instants() {
+                self.every_question(&Asked {
+                    tables: history.tables(),
+                    instant,
+                })?;
+            }
+            self.odd_questions(history.tables())?;
+        }
+        Ok(())
+    }
+
+    /// Plays every question at some instants of one large history.
+    fn crowd(&mut self) -> Result<(), P::Fault> {
+        let tables = Tables::of(&supply::crowd(&mut self.random, self.most));
+        let instants = tables.instants();
+        for _ in 0..8 {
+            let instant = self.random.pick(&instants);
+            self.every_question(&Asked {
+                tables: &tables,
+                instant,
+            })?;
+        }
+        Ok(())
+    }
+
+    /// Plays the permanent state, the snapshot and each property, now and then into a new record.
+    fn every_question(&mut self, asked: &Asked) -> Result<(), P::Fault> {
+        if self.random.below(16) == 0 || self.record.len() != RECORD_BYTES {
+            self.record = vec![self.random.byte(); RECORD_BYTES];
+        }
+        self.ask(asked, Question::State)?;
+        self.ask(asked, Question::Snapshot)?;
+        (0..8).try_for_each(|property| self.ask(asked, Question::Property(property)))
+    }
+
+    /// Plays questions that may be refused: for a table, the instant, the record or the property.
+    fn odd_questions(&mut self, tables: &Tables) -> Result<(), P::Fault> {
+        let mut instants = tables.instants();
+        instants.push(NONE);
+        let instant = self.random.pick(&instants);
+        let mut tables = tables.clone();
+        match self.random.below(16) {
+            0 => supply::spoil(&mut self.random, &mut tables.permanent),
+            1 => supply::spoil(&mut self.random, &mut tables.temporary),
+            2 => tables.permanent.truncate(self.random.below(40)),
+            3 => tables.temporary.truncate(self.random.below(40)),
+            4 => self.random.flip(&mut tables.temporary[8..24], 1),
+            5 => std::mem::swap(&mut tables.permanent, &mut tables.temporary),
+            _ => {}
+        }
+        let length = self.random.pick(&[0, 1, 223, 224, 225, 448, 512]);
+        self.record = vec![self.random.byte(); length];
+        let property = self.random.pick(&[0, 7, 8, 9, 127, 255]);
+        let asked = Asked {
+            tables: &tables,
+            instant,
+        };
+        let questions = [
+            Question::State,
+            Question::Snapshot,
+            Question::Property(property),
+        ];
+        questions
+            .into_iter()
+            .try_for_each(|question| self.ask(&asked, question))
     }
 }

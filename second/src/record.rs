@@ -20,7 +20,7 @@ pub struct Correction(pub u16);
 pub struct Sequence(pub u32);
 
 /// Seconds from the beginning of 2000, never "none".
-#[derive(Clone, Copy, Debug, PartialEq, PartialOrd)]
+#[derive(Clone, Copy, Debug, PartialEq, Eq, PartialOrd, Ord)]
 pub struct Instant(pub u32);
 
 /// The side of a table.
@@ -137,6 +137,12 @@ impl Span {
             begin: Instant::given(begin),
             end: Instant::given(end),
         }
+    }
+
+    /// Answers whether an instant lies in the span: its begin does, its end does not, and an end of none
+    /// runs on without limit.
+    pub fn has(self, instant: Instant) -> bool {
+        self.begin.is_some_and(|begin| begin <= instant) && self.end.is_none_or(|end| instant < end)
     }
 
     /// Answers the span that eight bytes hold.
@@ -302,6 +308,15 @@ mod tests {
             ..head
         }
         .is_cancelled());
+    }
+
+    /// "Periods include their begin and exclude their end"; none runs on.
+    #[test]
+    fn a_span_has_its_begin_and_not_its_end() {
+        let has = |span: Span| [99, 100, 199, 200, NONE - 1].map(|time| span.has(Instant(time)));
+        assert_eq!(has(Span::new(100, 200)), [false, true, true, false, false]);
+        assert_eq!(has(Span::new(100, NONE)), [false, true, true, true, true]);
+        assert_eq!(has(Span::new(NONE, NONE)), [false; 5]);
     }
 
     /// Kinds are 1 to 3, sides 0 and 1.

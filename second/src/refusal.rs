@@ -10,6 +10,7 @@ pub enum Refusal {
     Count = 5,
     Record = 6,
     Order = 7,
+    OtherFeature = 8,
     Length = 9,
     Feature = 10,
     Kind = 11,
@@ -20,6 +21,11 @@ pub enum Refusal {
     Content = 16,
     Clash = 17,
     Full = 18,
+    Asked = 19,
+    NoState = 20,
+    TwoAnchors = 21,
+    Withdrawn = 22,
+    Buffer = 23,
 }
 
 impl Refusal {

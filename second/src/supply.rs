@@ -126,6 +126,44 @@ pub fn delivery(random: &mut Random, side: Side, count: usize) -> Vec<Vec<u8>> {
     slices
 }
 
+/// How long each BASELINE of a crowd holds; the next one begins where it ends.
+pub const STRETCH: usize = 100;
+
+/// Makes so many slices for each side: a row of BASELINEs, three times as many changes anywhere in it,
+/// and TEMPDELTAs of any period; properties of forms at random, and some deltas cancelled.
+pub fn crowd(random: &mut Random, count: usize) -> Vec<Case> {
+    let baselines = count / 4;
+    let mut cases = vec![];
+    for index in 0..count {
+        let begin = (index * STRETCH) as u32;
+        let [instant, passing] = [(); 2].map(|()| random.below(baselines * STRETCH) as u32);
+        let length = 1 + random.below(5000) as u32;
+        let end = random.pick(&[NONE, passing + length]);
+        cases.push(if index < baselines {
+            let times = [begin, begin + STRETCH as u32, NONE, NONE];
+            one_of_many(random, Kind::Baseline, index, times)
+        } else {
+            one_of_many(random, Kind::PermDelta, index, [instant, NONE, NONE, NONE])
+        });
+        let times = [passing, end, NONE, NONE];
+        cases.push(one_of_many(random, Kind::TempDelta, index, times));
+    }
+    cases
+}
+
+/// Makes a slice of a kind with these times; a delta may be cancelled.
+fn one_of_many(random: &mut Random, kind: Kind, index: usize, times: [u32; 4]) -> Case {
+    let sequence = 7 * index as u32;
+    if kind != Kind::Baseline && random.below(8) == 0 {
+        return Case::cancelled(kind).with_sequence(sequence);
+    }
+    let parts = parts(random, kind);
+    Case::any(kind)
+        .with_sequence(sequence)
+        .with_times(times)
+        .with_parts(&parts)
+}
+
 /// Puts things into another order.
 pub fn shuffle<T>(random: &mut Random, things: &mut [T]) {
     for last in (1..things.len()).rev() {

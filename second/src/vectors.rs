@@ -1,15 +1,24 @@
 //! The vectors: asks with their answers, and the format they are handed on in.
 
+mod anchors;
 mod areas;
+mod asking;
+mod brief;
 mod cancelled;
 mod chance;
 mod content;
 mod creation;
+mod crowds;
+mod examples;
 mod faults;
 mod feeds;
 mod filing;
 pub mod format;
+mod lives;
+mod overlays;
 mod parts;
+mod refusals;
+mod revivals;
 mod rooms;
 mod rules;
 pub mod sample;
@@ -21,7 +30,9 @@ use crate::play::{round, Call, Player};
 use crate::property;
 use crate::refusal::{number_of, Refusal};
 use crate::table::{self, Sides};
-use format::{buffer_line, changes, line, table_lines, BUFFER_BYTES, FEATURE_BYTES, TABLE_BYTES};
+use format::{
+    buffer_line, changes, either_lines, line, BUFFER_BYTES, EXCHANGE, FEATURE_BYTES, TABLE_BYTES,
+};
 use sample::Case;
 use std::convert::Infallible;
 
@@ -38,15 +49,25 @@ struct Ask {
     answer: String,
 }
 
-/// All asks in order, with the buffer, the feature and the table as the last line left them, and
-/// the table as it was before the last ask about one.
+/// What the lines so far have made: the buffer, the feature, both tables, the instant and the record,
+/// and the table as it was before the last ask for its check or a change.
 #[derive(Default)]
-pub struct Script {
+struct Made {
     buffer: Vec<u8>,
     feature: Vec<u8>,
     table: Vec<u8>,
+    other: Vec<u8>,
     before: Vec<u8>,
+    instant: u32,
+    record: Vec<u8>,
+}
+
+/// All asks in order, what their lines have made, and whether a title has come since the last record.
+#[derive(Default)]
+pub struct Script {
+    made: Made,
     rows: Vec<Row>,
+    is_begun: bool,
 }
 
 /// Answers the number of a refusal.
@@ -70,6 +91,13 @@ pub fn all() -> Script {
     rooms::add(&mut script);
     filing::add(&mut script);
     feeds::add(&mut script);
+    examples::add(&mut script);
+    refusals::add(&mut script);
+    anchors::add(&mut script);
+    lives::add(&mut script);
+    overlays::add(&mut script);
+    revivals::add(&mut script);
+    crowds::add(&mut script);
     script
 }
 
@@ -85,12 +113,21 @@ impl Player for Script {
     type Fault = Infallible;
 
     /// Adds the call as an ask.
-    fn call(&mut self, table: &mut Vec<u8>, call: &Call) -> Result<(), Infallible> {
+    fn call(&mut self, place: &mut Vec<u8>, call: &Call) -> Result<(), Infallible> {
         match call {
-            Call::Create { side, feature } => self.ask_creation(table, *side, &feature[..]),
-            Call::Arrive { slice } => self.ask_arrival(table, slice),
+            Call::Create { side, feature } => self.ask_creation(place, *side, &feature[..]),
+            Call::Arrive { slice } => self.ask_arrival(place, slice),
+            Call::Ask {
+                tables,
+                instant,
+                question,
+            } => {
+                self.ask_question(tables, *instant, *question, place);
+                place.clone_from(&self.made.record);
+                return Ok(());
+            }
         }
-        table.clone_from(&self.table);
+        place.clone_from(&self.made.table);
         Ok(())
     }
 }
@@ -99,6 +136,7 @@ impl Script {
     /// Begins a group of asks under a title.
     fn title(&mut self, title: &'static str) {
         self.rows.push(Row::Title(title));
+        self.is_begun = true;
     }
 
     /// Asks what one property part holds.
@@ -128,7 +166,7 @@ impl Script {
     fn ask_table(&mut self, bytes: &[u8], sides: Sides) {
         let lines = self.set_table(bytes);
         let answer = number_of(table::check(bytes, sides)).to_string();
-        self.before = bytes.to_vec();
+        self.made.before = bytes.to_vec();
         self.ask(lines, line('k', &[sides as u8]), answer);
     }
 
@@ -139,38 +177,46 @@ impl Script {
         let first = feature
             .first_chunk()
             .expect("a feature of 16 bytes or more");
-        let made = table::create(&mut self.table, side, first);
+        let made = table::create(&mut self.made.table, side, first);
         let answer = made.map_or_else(refused, |()| "made".to_string());
         self.ask_change(lines, line('m', &[side]), bytes, answer);
     }
 
     /// Asks for the arrival of a slice at a table.
     fn ask_arrival(&mut self, bytes: &[u8], slice: &[u8]) {
-        let mut lines = self.set_table(bytes);
+        let lines = self.set_table(bytes);
+        self.ask_arrival_after(lines, slice);
+    }
+
+    /// Asks for the arrival of a slice at the table that some lines have made.
+    fn ask_arrival_after(&mut self, mut lines: Vec<String>, slice: &[u8]) {
         lines.extend(self.set_buffer(slice));
-        let arrival = arrival::arrive(&mut self.table, slice);
+        let bytes = self.made.table.clone();
+        let arrival = arrival::arrive(&mut self.made.table, slice);
         let answer = arrival.map_or_else(refused, |arrival: Arrival| arrival.to_string());
-        self.ask_change(lines, "a".to_string(), bytes, answer);
+        self.ask_change(lines, "a".to_string(), &bytes, answer);
     }
 
     /// Asks for the arrival of a slice at the table as it is now.
     fn deliver(&mut self, slice: &[u8]) {
-        let bytes = self.table.clone();
-        self.ask_arrival(&bytes, slice);
+        self.ask_arrival_after(vec![], slice);
     }
 
     /// Adds an ask that may have changed the table, which was these bytes.
     fn ask_change(&mut self, lines: Vec<String>, line: String, bytes: &[u8], answer: String) {
-        let answer = answer + &changes(bytes, &self.table);
-        self.before = bytes.to_vec();
+        let answer = answer + &changes(bytes, &self.made.table);
+        self.made.before = bytes.to_vec();
         self.ask(lines, line, answer);
     }
 
-    /// Changes the table; answers the lines that do so.
+    /// Changes the table; answers the lines that do so, which may take the other one for it.
     fn set_table(&mut self, bytes: &[u8]) -> Vec<String> {
         assert!(bytes.len() <= TABLE_BYTES);
-        let lines = table_lines(&self.table, &self.before, bytes);
-        self.table = bytes.to_vec();
+        let lines = either_lines(&self.made.table, &self.made.other, &self.made.before, bytes);
+        if lines.first().is_some_and(|line| line == EXCHANGE) {
+            std::mem::swap(&mut self.made.table, &mut self.made.other);
+        }
+        self.made.table = bytes.to_vec();
         lines
     }
 
@@ -186,16 +232,16 @@ impl Script {
     /// Changes the buffer; answers the line that does so, if one is needed.
     fn set_buffer(&mut self, bytes: &[u8]) -> Option<String> {
         assert!(bytes.len() <= BUFFER_BYTES);
-        let line = buffer_line(&self.buffer, bytes);
-        self.buffer = bytes.to_vec();
+        let line = buffer_line(&self.made.buffer, bytes);
+        self.made.buffer = bytes.to_vec();
         line
     }
 
     /// Changes the feature; answers the line that does so, if one is needed.
     fn set_feature(&mut self, bytes: &[u8]) -> Option<String> {
         assert!(bytes.len() <= FEATURE_BYTES);
-        let line = (self.feature != bytes).then(|| line('f', bytes));
-        self.feature = bytes.to_vec();
+        let line = (self.made.feature != bytes).then(|| line('f', bytes));
+        self.made.feature = bytes.to_vec();
         line
     }
 
@@ -249,8 +295,13 @@ impl Row {
 #[cfg(test)]
 mod tests {
     use super::*;
+    use crate::property::{decode, find, properties};
+    use crate::question::{permanent_state, property, snapshot};
     use crate::slice;
     use std::collections::BTreeMap;
+
+    /// The seeds of random calls that the gate has.
+    const SEEDS: u64 = 42;
 
     /// Answers the bytes that pairs of hex digits stand for.
     fn unhex(digits: &str) -> Vec<u8> {
@@ -264,16 +315,7 @@ mod tests {
             .collect()
     }
 
-    /// What the lines so far have made.
-    #[derive(Default)]
-    struct Reader {
-        buffer: Vec<u8>,
-        feature: Vec<u8>,
-        table: Vec<u8>,
-        before: Vec<u8>,
-    }
-
-    impl Reader {
+    impl Made {
         /// Obeys a line that makes something; answers whether it was one.
         fn make(&mut self, letter: &str, bytes: &[u8]) -> bool {
             let place =
@@ -287,6 +329,9 @@ mod tests {
                 "t" => self.table = vec![bytes[3]; place(bytes)],
                 "w" => self.table[place(bytes)..][..bytes.len() - 3].copy_from_slice(&bytes[3..]),
                 "z" => self.table = self.before.clone(),
+                "x" => std::mem::swap(&mut self.table, &mut self.other),
+                "i" => self.instant = u32::from_be_bytes(bytes.try_into().unwrap()),
+                "l" => self.record = vec![bytes[2]; place(&[0, bytes[0], bytes[1]])],
                 _ => return false,
             }
             true
@@ -295,12 +340,24 @@ mod tests {
         /// Answers a line that asks.
         fn answer(&mut self, letter: &str, bytes: &[u8]) -> String {
             match letter {
-                "d" => property::decode(&self.buffer)
-                    .map_or("broken".to_string(), |value| value.to_string()),
-                "r" => property::find(&property::properties(&self.buffer)).to_string(),
+                "d" => decode(&self.buffer).map_or("broken".to_string(), |value| value.to_string()),
+                "r" => find(&properties(&self.buffer)).to_string(),
                 "s" => number_of(slice::check(&self.buffer, &self.feature, bytes[0])).to_string(),
+                "g" | "n" | "v" => self.answer_of_instant(letter, bytes),
                 _ => self.answer_of_table(letter, bytes),
             }
+        }
+
+        /// Answers a line that asks about the two tables at the instant.
+        fn answer_of_instant(&mut self, letter: &str, bytes: &[u8]) -> String {
+            let (table, other, instant) = (&self.table, &self.other, self.instant);
+            let before = self.record.clone();
+            let answer = match letter {
+                "g" => asking::written(permanent_state(table, instant, &mut self.record)),
+                "n" => asking::written(snapshot(table, other, instant, &mut self.record)),
+                _ => asking::found(property(table, other, instant, bytes[0])),
+            };
+            answer + &changes(&before, &self.record)
         }
 
         /// Answers a line that asks about the table.
@@ -326,7 +383,7 @@ mod tests {
 
     /// Answers the answers to an input stream, read line by line as the format says.
     fn replay(input: &str) -> String {
-        let mut reader = Reader::default();
+        let mut reader = Made::default();
         let mut answers = String::new();
         for line in input.lines() {
             let (letter, digits) = line.split_at(1);
@@ -351,19 +408,22 @@ mod tests {
     fn the_streams_are_the_same_each_time_and_small() {
         let (first, second) = (all(), all());
         assert!(first.input() == second.input() && first.answers() == second.answers());
-        for script in (1..20).map(random).chain([first]) {
-            assert!(script.input().len() <= 1_572_864);
+        for script in (1..=SEEDS).map(random).chain([first]) {
+            assert!(script.input().len() <= 2_097_152);
             assert!(script.answers().len() <= 1_048_576);
             assert!(script.input().is_ascii());
         }
     }
 
-    /// A hundred asks or more for each answer, and no other answer.
+    /// A hundred asks or more for each answer, twenty for each about an instant, and no other answer.
     #[test]
     fn every_answer_is_well_represented() {
         let script = all();
         let mut counts = BTreeMap::new();
-        for ask in script.asks().filter(|ask| "smak".contains(&ask.line[..1])) {
+        for ask in script
+            .asks()
+            .filter(|ask| "smakgnv".contains(&ask.line[..1]))
+        {
             let word = ask.answer.split(' ').next().unwrap();
             *counts.entry((&ask.line[..1], word)).or_insert(0) += 1;
         }
@@ -374,9 +434,16 @@ mod tests {
             ("k", "0 1 2 3 4 5 6 7"),
             ("a", "added replaced superseded repeat 1 2 3 4 5 6 7"),
             ("a", "9 10 11 12 13 14 15 16 17 18"),
+            ("g", "written 1 2 3 4 5 6 7 19 20 21 22 23"),
+            ("n", "written 1 2 3 4 5 6 7 8 19 20 21 22 23"),
+            (
+                "v",
+                "permanent temporary unmentioned 1 2 3 4 5 6 7 8 19 20 21 22",
+            ),
         ] {
             for word in words.split(' ') {
-                assert!(counts[&(letter, word)] >= 100, "{letter}: {word}");
+                let least = if "gnv".contains(letter) { 20 } else { 100 };
+                assert!(counts[&(letter, word)] >= least, "{letter}: {word}");
                 answers += 1;
             }
         }

@@ -40,10 +40,11 @@ fn has_length(letter: u8, n: usize) -> bool {
         b'b' => (n % 2 == 1) & (n <= 1025),
         b'f' => (n % 2 == 1) & (n <= 129),
         b'p' => n % 4 == 1,
-        b't' => n == 9,
+        b't' | b'i' => n == 9,
+        b'l' => n == 7,
         b'w' => (n % 2 == 1) & (7 <= n),
-        b'd' | b'r' | b'z' | b'a' => n == 1,
-        b's' | b'k' | b'm' => n == 3,
+        b'd' | b'r' | b'z' | b'a' | b'x' | b'g' | b'n' => n == 1,
+        b's' | b'k' | b'm' | b'v' => n == 3,
         _ => false,
     }
 }
@@ -81,4 +82,17 @@ pub fn triple(line: &[u8]) -> usize {
     let high = pair(line, 0) as usize;
     let middle = pair(line, 1) as usize;
     high * 65536 + middle * 256 + (pair(line, 2) as usize)
+}
+
+// The number of the first two pairs, the higher first.
+pub fn double(line: &[u8]) -> usize {
+    (pair(line, 0) as usize) * 256 + (pair(line, 1) as usize)
+}
+
+// The number of the first four pairs, the highest first.
+pub fn quadruple(line: &[u8]) -> u32 {
+    let high = pair(line, 0) as u32;
+    let next = pair(line, 1) as u32;
+    let low = pair(line, 2) as u32;
+    high * 16777216 + next * 65536 + low * 256 + (pair(line, 3) as u32)
 }

@@ -7,27 +7,42 @@
 //   t LENGTH VALUE    the table becomes so many bytes, at most 65,536, each of this value
 //   w OFFSET BYTES    these bytes are written into the table, from this offset on
 //   z                 the table becomes what it was before the last k, m or a
+//   x                 the table and the other table are exchanged
+//   i INSTANT         the instant becomes this
+//   l LENGTH VALUE    the record becomes so many bytes, at most 512, each of this value
 //   d                 asks for the value of the buffer as one property
 //   r                 asks for the check of the buffer as eight properties
 //   s SIDE            asks for the check of the buffer as a slice, against the feature and this side
 //   k SIDES           asks for the check of the table, 0 taking permanent ones, 1 temporary ones, 2 both
 //   m SIDE            asks for a new table, of this side and the first 16 bytes of the feature
 //   a                 asks for the arrival of the buffer at the table
+//   g                 asks for the permanent state of the table at the instant, into the record
+//   n                 asks for the snapshot of the table and the other one at the instant, into the record
+//   v PROPERTY        asks for the property of this number of the same tables at the instant
 //
-// LENGTH and OFFSET have three pairs. The answers to m and a end with the bytes of the table that changed.
+// LENGTH and OFFSET have three pairs, that of a record two, INSTANT four. The answers to m and a end with
+// the bytes of the table that changed, those to g and n with those of the record.
+mod asking;
 mod lent;
 mod line;
 mod text;
 
+use crate::asking::ask_instant;
+use crate::lent::end_of;
 use crate::lent::fill;
 use crate::lent::front;
 use crate::lent::keep;
 use crate::lent::lay;
+use crate::lent::part;
 use crate::lent::patch;
+use crate::lent::shift;
 use crate::lent::within;
 use crate::lent::write;
 use crate::line::command;
+use crate::line::double;
 use crate::line::pair;
+use crate::line::quadruple;
+use crate::line::triple;
 use crate::text::put_arrival;
 use crate::text::put_changes;
 use crate::text::put_checked;
@@ -36,18 +51,28 @@ use crate::text::put_decoded;
 use crate::text::put_eight;
 use libc::STDIN_FILENO;
 use libc::STDOUT_FILENO;
+use numbers::Instant;
 use table::Sides;
 ghost use mathlib.Core.Path.{_≡_};
 ghost use Prim.Native.Nat.{_≤_};
 ghost use lib.ListN.{length};
 
-// How many bytes are in use: of the buffer, of the feature, of the table, of the table before the last
-// question about it, and of the answers.
+// Where the table before the last question about it is kept, behind the two tables.
+const BEFORE: usize = 131072;
+
+// How many bytes are in use: of the buffer, of the feature, of the table and of the other one, of the
+// table before the last question about it, of the record, and of the answers; where the table and the
+// other one begin; and the instant.
 struct Used {
     buffer: usize,
     feature: usize,
+    at: usize,
     table: usize,
+    other_at: usize,
+    other: usize,
     before: usize,
+    record: usize,
+    instant: u32,
     answers: usize,
 }
 
@@ -64,14 +89,37 @@ fn make(letter: u8, line: &[u8], buffer: &mut [u8], feature: &mut [u8], used: Us
 }
 
 // Makes the table as a letter that does so says, and keeps it for a letter that asks about it.
-fn make_table(letter: u8, line: &[u8], table: &mut [u8], before: &mut [u8], used: Used) -> Used {
+fn make_table(letter: u8, line: &[u8], tables: &mut [u8], used: Used) -> Used {
+    let from = within(tables, used.at);
+    let to = end_of(tables, from, 65536);
     let mut next = used;
-    let n = within(table, used.table);
     match letter {
-        b't' => next.table = lay(table, line),
-        b'w' => write(&mut table[0..n], line),
-        b'z' => next.table = keep(table, front(before, used.before)),
-        b'k' | b'm' | b'a' => next.before = keep(before, &table[0..n]),
+        b't' => next.table = lay(&mut tables[from..to], triple(line), pair(line, 3)),
+        b'w' => write(&mut tables[from..to], line),
+        b'z' => next.table = shift(tables, BEFORE, from, used.before),
+        b'k' | b'm' | b'a' => next.before = shift(tables, from, BEFORE, used.table),
+        _ => {}
+    }
+    next
+}
+
+// Exchanges the table with the other one.
+fn exchange(used: Used) -> Used {
+    let mut next = used;
+    next.at = used.other_at;
+    next.table = used.other;
+    next.other_at = used.at;
+    next.other = used.table;
+    next
+}
+
+// Makes the record or the instant, or exchanges the tables, as a letter that does so says.
+fn make_record(letter: u8, line: &[u8], record: &mut [u8], used: Used) -> Used {
+    let mut next = used;
+    match letter {
+        b'l' => next.record = lay(record, double(line), pair(line, 2)),
+        b'i' => next.instant = quadruple(line),
+        b'x' => next = exchange(used),
         _ => {}
     }
     next
@@ -104,13 +152,12 @@ fn ask_new(side: u8, table: &mut [u8], feature: &[u8], out: &mut [u8], at: usize
     put_creation(out, at, table::new_table(table, side, &name))
 }
 
-// Writes the answer to a letter that asks about the table, with the bytes that changed, and answers the
-// place after it. No other letter has an answer here.
+// Writes the answer to a letter that asks about the table, but for the bytes that changed, and answers
+// the place after it. No other letter has an answer here.
 fn ask_table(
     letter: u8,
     side: u8,
     table: &mut [u8],
-    old: &[u8],
     buffer: &[u8],
     feature: &[u8],
     out: &mut [u8],
@@ -118,37 +165,86 @@ fn ask_table(
 ) -> usize {
     match letter {
         b'k' => put_checked(out, at, table::check_table(table, sides_of(side))),
-        b'm' => {
-            let a = ask_new(side, table, feature, out, at);
-            put_changes(out, a, old, table)
-        }
-        b'a' => {
-            let a = put_arrival(out, at, table::arrive(table, buffer));
-            put_changes(out, a, old, table)
-        }
+        b'm' => ask_new(side, table, feature, out, at),
+        b'a' => put_arrival(out, at, table::arrive(table, buffer)),
         _ => at,
     }
 }
 
-// Writes the answer to a letter that asks, and answers what is in use after it. No other letter has an
-// answer.
-fn answer(
+// Writes the bytes of the table that are not as they were, for a letter that may change it.
+fn tell_changes(letter: u8, tables: &[u8], out: &mut [u8], used: Used) -> usize {
+    match letter {
+        b'm' | b'a' => put_changes(
+            out,
+            used.answers,
+            part(tables, BEFORE, used.before),
+            part(tables, used.at, used.table),
+        ),
+        _ => used.answers,
+    }
+}
+
+// Obeys a letter that concerns the buffer or the feature, and answers what is in use after it.
+fn obey_buffer(
     letter: u8,
-    side: u8,
-    buffer: &[u8],
-    feature: &[u8],
-    table: &mut [u8],
-    before: &[u8],
+    line: &[u8],
+    buffer: &mut [u8],
+    feature: &mut [u8],
     out: &mut [u8],
     used: Used,
 ) -> Used {
-    let bytes = front(buffer, used.buffer);
-    let name = front(feature, used.feature);
-    let old = front(before, used.before);
-    let n = within(table, used.table);
-    let a = ask(letter, side, bytes, name, out, used.answers);
-    let mut next = used;
-    next.answers = ask_table(letter, side, &mut table[0..n], old, bytes, name, out, a);
+    let mut next = make(letter, line, buffer, feature, used);
+    let bytes = front(buffer, next.buffer);
+    let name = front(feature, next.feature);
+    next.answers = ask(letter, pair(line, 0), bytes, name, out, next.answers);
+    next
+}
+
+// Obeys a letter that concerns the table, and answers what is in use after it.
+fn obey_table(
+    letter: u8,
+    line: &[u8],
+    buffer: &[u8],
+    feature: &[u8],
+    tables: &mut [u8],
+    out: &mut [u8],
+    used: Used,
+) -> Used {
+    let mut next = make_table(letter, line, tables, used);
+    let bytes = front(buffer, next.buffer);
+    let name = front(feature, next.feature);
+    let from = within(tables, next.at);
+    let to = end_of(tables, from, next.table);
+    let table = &mut tables[from..to];
+    next.answers = ask_table(letter, pair(line, 0), table, bytes, name, out, next.answers);
+    let end = tell_changes(letter, tables, out, next);
+    next.answers = end;
+    next
+}
+
+// Obeys a letter that concerns the instant, the record or both tables, and answers what is in use after it.
+fn obey_instant(
+    letter: u8,
+    line: &[u8],
+    tables: &[u8],
+    record: &mut [u8],
+    out: &mut [u8],
+    used: Used,
+) -> Used {
+    let mut next = make_record(letter, line, record, used);
+    let permanent = part(tables, next.at, next.table);
+    let temporary = part(tables, next.other_at, next.other);
+    let n = within(record, next.record);
+    next.answers = ask_instant(
+        letter,
+        pair(line, 0),
+        permanent,
+        temporary,
+        Instant(next.instant),
+        &mut record[0..n],
+        out,
+        next.answers,
+    );
     next
 }
 
@@ -157,24 +253,15 @@ fn obey(
     line: &[u8],
     buffer: &mut [u8],
     feature: &mut [u8],
-    table: &mut [u8],
-    before: &mut [u8],
+    tables: &mut [u8],
+    record: &mut [u8],
     out: &mut [u8],
     used: Used,
 ) -> Used {
     let letter = command(line);
-    let made = make(letter, line, buffer, feature, used);
-    let next = make_table(letter, line, table, before, made);
-    answer(
-        letter,
-        pair(line, 0),
-        buffer,
-        feature,
-        table,
-        before,
-        out,
-        next,
-    )
+    let next = obey_table(letter, line, buffer, feature, tables, out, used);
+    let last = obey_instant(letter, line, tables, record, out, next);
+    obey_buffer(letter, line, buffer, feature, out, last)
 }
 
 // Obeys each line of the input, and answers how many bytes of answers there are.
@@ -182,8 +269,8 @@ fn run(
     input: &[u8],
     buffer: &mut [u8],
     feature: &mut [u8],
-    table: &mut [u8],
-    before: &mut [u8],
+    tables: &mut [u8],
+    record: &mut [u8],
     out: &mut [u8],
 ) -> usize
     ensures { λ r. ⌜ r ≤ length (now (out .exit)) ⌝ }
@@ -191,24 +278,30 @@ fn run(
     let mut used = Used {
         buffer: 0,
         feature: 0,
+        at: 0,
         table: 0,
+        other_at: 65536,
+        other: 0,
         before: 0,
+        record: 0,
+        instant: 0,
         answers: 0,
     };
     let mut at = 0;
     while at < input.len() {
         let end = bytes::scan::find(input, at, input.len(), b'\n');
-        used = obey(&input[at..end], buffer, feature, table, before, out, used);
-        at = end + 1;
+        let next = end + 1;
+        used = obey(&input[at..end], buffer, feature, tables, record, out, used);
+        at = next;
     }
     within(out, used.answers)
 }
 
 // Room for the input.
-fn room() -> [u8; 1572864]
-    ensures { λ r. ⌜ 1572864 ≡ length r ⌝ }
+fn room() -> [u8; 2097152]
+    ensures { λ r. ⌜ 2097152 ≡ length r ⌝ }
 {
-    [0; 1572864]
+    [0; 2097152]
 }
 
 // Room for the answers.
@@ -224,15 +317,15 @@ fn main() {
     let got = io::read_full(STDIN_FILENO, &mut input);
     let mut buffer = [0u8; 512];
     let mut feature = [0u8; 64];
-    let mut table = io::large_buffer();
-    let mut before = io::large_buffer();
+    let mut tables = [0u8; 196608];
+    let mut record = [0u8; 512];
     let mut out = answer_room();
     let n = run(
         &input[..got],
         &mut buffer,
         &mut feature,
-        &mut table,
-        &mut before,
+        &mut tables,
+        &mut record,
         &mut out,
     );
     io::write_all(STDOUT_FILENO, &out[0..n]);

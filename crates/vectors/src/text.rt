@@ -23,7 +23,7 @@ pub fn put(out: &mut [u8], at: usize, text: &[u8]) -> usize {
 }
 
 // Writes a number in decimal.
-fn put_digits(out: &mut [u8], at: usize, n: u64) -> usize {
+pub fn put_digits(out: &mut [u8], at: usize, n: u64) -> usize {
     let mut digits = [0u8; 20];
     let k = io::decimal(n, &mut digits);
     put(out, at, &digits[..k])
@@ -97,15 +97,21 @@ fn put_point(out: &mut [u8], at: usize, p: Position) -> usize {
     put(out, d, b"\n")
 }
 
-// Writes the line of a value.
-fn put_value(out: &mut [u8], at: usize, v: Value) -> usize {
+// Writes the line of a value that is a word.
+fn put_word(out: &mut [u8], at: usize, v: Value) -> usize {
     match v {
-        Value::Unmentioned => put(out, at, b"unmentioned\n"),
         Value::Inapplicable => put(out, at, b"inapplicable\n"),
         Value::Missing => put(out, at, b"missing\n"),
         Value::Template => put(out, at, b"template\n"),
         Value::Unknown => put(out, at, b"unknown\n"),
         Value::Withheld => put(out, at, b"withheld\n"),
+        _ => put(out, at, b"unmentioned\n"),
+    }
+}
+
+// Writes the line of a value.
+fn put_value(out: &mut [u8], at: usize, v: Value) -> usize {
+    match v {
         Value::Code(n) => {
             let a = put(out, at, b"code ");
             put_decimal(out, a, n as u64)
@@ -116,6 +122,7 @@ fn put_value(out: &mut [u8], at: usize, v: Value) -> usize {
         }
         Value::Length(x, unit) => put_length(out, at, x, unit),
         Value::Point(p) => put_point(out, at, p),
+        _ => put_word(out, at, v),
     }
 }
 
@@ -166,7 +173,7 @@ pub fn put_arrival(out: &mut [u8], at: usize, a: Arrival) -> usize {
 }
 
 // Writes a byte as two hexadecimal digits.
-fn put_byte(out: &mut [u8], at: usize, byte: u8) -> usize {
+pub fn put_byte(out: &mut [u8], at: usize, byte: u8) -> usize {
     let mut digits = [0u8; 16];
     let k = io::hex(byte as u64, 2, &mut digits);
     put(out, at, &digits[..k])

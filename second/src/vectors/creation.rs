@@ -62,7 +62,7 @@ fn over_old_tables(script: &mut Script) {
     let bytes: Vec<u8> = (0..=255).rev().collect();
     for side in [0, 1] {
         script.ask_creation(&bytes, side, &FEATURE);
-        let made = script.table.clone();
+        let made = script.made.table.clone();
         script.ask_creation(&made, 1 - side, &FEATURE);
         script.ask_creation(&made, side, &FEATURE);
         script.ask_creation(&made, 2, &FEATURE);

@@ -31,7 +31,7 @@ fn mixed_deliveries(script: &mut Script) {
         for slice in delivery(&mut random, side, 10) {
             script.deliver(&slice);
         }
-        script.ask_table(&script.table.clone(), Sides::Both);
+        script.ask_table(&script.made.table.clone(), Sides::Both);
     }
 }
 
@@ -62,7 +62,7 @@ fn full_deliveries(script: &mut Script) {
         shuffle(&mut random, &mut slices);
         begin(script, side, room, 0);
         slices.iter().for_each(|slice| script.deliver(slice));
-        script.ask_table(&script.table.clone(), Sides::Both);
+        script.ask_table(&script.made.table.clone(), Sides::Both);
     }
 }
 

@@ -11,8 +11,14 @@ pub const FEATURE_BYTES: usize = 64;
 /// The longest table the format allows.
 pub const TABLE_BYTES: usize = 65_536;
 
+/// The longest record the format allows.
+pub const RECORD_BYTES: usize = 512;
+
+/// The line that exchanges the table with the other one.
+pub const EXCHANGE: &str = "x";
+
 /// Answers the pairs of hex digits of some bytes.
-fn digits(bytes: &[u8]) -> String {
+pub fn digits(bytes: &[u8]) -> String {
     bytes.iter().map(|byte| format!("{byte:02x}")).collect()
 }
 
@@ -86,6 +92,17 @@ pub fn fill_lines(new: &[u8], fill: u8) -> Vec<String> {
     [vec![line('t', &[a, b, c, fill])], write_lines(&filled, new)].concat()
 }
 
+/// Answers the line that makes a record of one value.
+pub fn record_line(length: usize, value: u8) -> String {
+    let [_, a, b] = three(length);
+    line('l', &[a, b, value])
+}
+
+/// Answers the line that names an instant.
+pub fn instant_line(instant: u32) -> String {
+    line('i', &instant.to_be_bytes())
+}
+
 /// Answers how many bytes lines have.
 fn size(lines: &[String]) -> usize {
     lines.iter().map(|line| line.len() + 1).sum()
@@ -107,6 +124,20 @@ pub fn table_lines(table: &[u8], before: &[u8], new: &[u8]) -> Vec<String> {
     ways.into_iter()
         .min_by_key(|way| size(way))
         .expect("there is always a way")
+}
+
+/// Answers the shortest lines that make a table another, where the other one may be taken for it.
+pub fn either_lines(table: &[u8], other: &[u8], before: &[u8], new: &[u8]) -> Vec<String> {
+    let stay = table_lines(table, before, new);
+    if other.is_empty() || other.len() != new.len() {
+        return stay;
+    }
+    let exchange = [vec![EXCHANGE.to_string()], write_lines(other, new)].concat();
+    if size(&exchange) < size(&stay) {
+        exchange
+    } else {
+        stay
+    }
 }
 
 #[cfg(test)]
@@ -141,6 +172,30 @@ mod tests {
             ["z", "w000100010002"]
         );
         assert_eq!(table_lines(&[7; 9], &[1], &[]), ["t00000000"]);
+    }
+
+    /// The other table is taken where that is shorter, and there is one.
+    #[test]
+    fn tables_are_exchanged_where_that_is_shorter() {
+        let (zeros, mut new) = ([0; 300], [7; 300]);
+        new[5] = 1;
+        assert_eq!(
+            either_lines(&zeros, &[7; 300], &[], &new),
+            ["x", "w00000501"]
+        );
+        assert_eq!(
+            either_lines(&new, &[7; 300], &[], &new),
+            table_lines(&new, &[], &new)
+        );
+        assert_eq!(either_lines(&zeros, &[], &[1], &[]), ["t00000000"]);
+    }
+
+    /// Two bytes and a value; four bytes.
+    #[test]
+    fn records_and_instants_are_written_as_the_format_says() {
+        assert_eq!(record_line(224, 165), "l00e0a5");
+        assert_eq!(record_line(512, 0), "l020000");
+        assert_eq!(instant_line(258), "i00000102");
     }
 
     /// Runs end where a byte stayed.

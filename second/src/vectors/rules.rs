@@ -13,9 +13,9 @@ const SIDES: [Sides; 3] = [Sides::Permanent, Sides::Temporary, Sides::Both];
 
 /// A way to spoil a table, with the number it alone is refused for.
 #[derive(Clone, Copy)]
-struct Fault {
-    number: u8,
-    spoil: fn(Vec<u8>) -> Vec<u8>,
+pub struct Fault {
+    pub number: u8,
+    pub spoil: fn(Vec<u8>) -> Vec<u8>,
 }
 
 /// Makes a fault.
@@ -24,7 +24,7 @@ const fn fault(number: u8, spoil: fn(Vec<u8>) -> Vec<u8>) -> Fault {
 }
 
 /// Faults of a table of three records with room for four, by rising number.
-const FAULTS: [Fault; 34] = [
+pub const FAULTS: [Fault; 34] = [
     fault(1, |table| table[..0].to_vec()),
     fault(1, |table| table[..31].to_vec()),
     fault(2, |table| set(table, 0, b"t")),
@@ -62,12 +62,12 @@ const FAULTS: [Fault; 34] = [
 ];
 
 /// Answers where a record begins in a table.
-fn at(index: usize) -> usize {
+pub fn at(index: usize) -> usize {
     HEADER_BYTES + index * RECORD_BYTES
 }
 
 /// Answers the table with some bytes set.
-fn set(mut table: Vec<u8>, offset: usize, bytes: &[u8]) -> Vec<u8> {
+pub fn set(mut table: Vec<u8>, offset: usize, bytes: &[u8]) -> Vec<u8> {
     table[offset..offset + bytes.len()].copy_from_slice(bytes);
     table
 }
@@ -92,7 +92,7 @@ fn other_side(table: Vec<u8>) -> Vec<u8> {
 }
 
 /// Makes a table of each side: three records, a fourth that is not counted and not sound.
-fn bases() -> [Vec<u8>; 2] {
+pub fn bases() -> [Vec<u8>; 2] {
     let keys = [
         (Kind::Baseline, 7),
         (Kind::PermDelta, 3),

@@ -243,6 +243,12 @@ impl Case {
         self
     }
 
+    /// Answers what the bytes of the record before its properties say.
+    pub fn head(&self) -> Head {
+        let head = self.slice[RECORD..PARTS].try_into();
+        Head::read(&head.expect("a slice has a head"))
+    }
+
     /// Answers the record of the slice.
     pub fn record(&self) -> Vec<u8> {
         self.slice[RECORD..].to_vec()

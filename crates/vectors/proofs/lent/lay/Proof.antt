@@ -7,10 +7,10 @@ use Rattle.vectors.proofs.lent.lay.Statement.{statement}
 use Rattle.vectors.proofs.lent.lay.Tie as tie
 
 abbrev Inv-loop : tie.InvT-loop
-Inv-loop s₀ line n value i₀ s i = length s ≡ length s₀
+Inv-loop s₀ size value n i₀ s i = length s ≡ length s₀
 
 abbrev μ-loop : tie.MeasureT-loop
-μ-loop s₀ line n value i₀ s i = n - i
+μ-loop s₀ size value n i₀ s i = n - i
 
 pub lay-spec : {M : Type 1} → statement M
 lay-spec =
@@ -18,8 +18,6 @@ lay-spec =
     (tie.spec
     Inv-loop
     μ-loop
-    (λ c κs. search needs)
-    (λ c κs. search needs)
     (λ c κs. search needs)
     (λ c. search needs)
     (λ c. search needs)

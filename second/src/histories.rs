@@ -1,0 +1,263 @@
+//! Random small histories, each a little other than the last.
+
+use crate::random::Random;
+use crate::record::{Kind, Side, NONE, RECORD_BYTES};
+use crate::supply::EDGES;
+use crate::table::HEADER_BYTES;
+use crate::tables::Tables;
+use crate::vectors::sample::{self, code, nil, sound_parts, unmentioned, Area, Case, FLAGS, KIND};
+use std::collections::BTreeMap;
+
+/// How many records a table of a history has room for.
+const ROOM: usize = 6;
+
+/// How many instants the times of a history lie in, and where these begin.
+const INSTANTS: usize = 8;
+const BEGINS: [u32; 8] = [
+    0,
+    1,
+    100,
+    252,
+    65_532,
+    0x00ff_fffc,
+    0x7fff_fffc,
+    NONE - INSTANTS as u32,
+];
+
+/// A history that goes on changing: its records by kind and sequence number, and its tables, in which
+/// bytes of earlier records stay behind those that are counted.
+pub struct History {
+    begin: u32,
+    records: BTreeMap<(u8, u32), Case>,
+    tables: Tables,
+}
+
+impl History {
+    /// Makes a history of some records.
+    pub fn new(random: &mut Random) -> History {
+        let length = HEADER_BYTES + ROOM * RECORD_BYTES + random.below(3);
+        let table = |side| sample::table(side, &[], length, 0);
+        let mut history = History {
+            begin: random.pick(&BEGINS),
+            records: BTreeMap::new(),
+            tables: Tables {
+                permanent: table(Side::Permanent),
+                temporary: table(Side::Temporary),
+            },
+        };
+        for _ in 0..random.below(8) {
+            history.put(random);
+        }
+        history
+    }
+
+    /// Answers the two tables as they are now.
+    pub fn tables(&self) -> &Tables {
+        &self.tables
+    }
+
+    /// Changes the history in one or two places.
+    pub fn change(&mut self, random: &mut Random) {
+        for _ in 0..=random.below(2) {
+            match random.below(5) {
+                0 | 1 => self.put(random),
+                _ if !self.is_based() => self.put(random),
+                2 => self.change_times(random),
+                3 => self.change_parts(random),
+                _ => self.remove(random),
+            }
+        }
+        self.write();
+    }
+
+    /// Puts a new record in, or another in place of one where its table is full.
+    fn put(&mut self, random: &mut Random) {
+        let kind = self.kind(random);
+        let sequence = match random.below(6) {
+            0 => random.pick(&EDGES),
+            _ => 1 + random.below(5) as u32,
+        };
+        let is_new = !self.records.contains_key(&(kind.byte(), sequence));
+        if is_new && self.of(kind.side()).count() == ROOM {
+            return self.remove(random);
+        }
+        let case = if random.below(8) == 0 {
+            Case::cancelled(kind)
+        } else {
+            let parts = self.parts(random, kind);
+            Case::any(kind)
+                .with_parts(&parts)
+                .with_times(self.times(random, kind))
+        };
+        let correction = random.pick(&[0, 0, 1, 65_535]);
+        let case = case.with_sequence(sequence).with_correction(correction);
+        self.records.insert((kind.byte(), sequence), case);
+    }
+
+    /// Answers whether a BASELINE is counted.
+    fn is_based(&self) -> bool {
+        let is_counted = |case: &Case| case.slice[KIND..=FLAGS] == [Kind::Baseline.byte(), 0];
+        self.records.values().any(is_counted)
+    }
+
+    /// Answers a kind, a BASELINE seldom but where none is counted.
+    fn kind(&self, random: &mut Random) -> Kind {
+        match random.below(12) {
+            0 => Kind::Baseline,
+            1..=5 if !self.is_based() => Kind::Baseline,
+            1..=6 => Kind::PermDelta,
+            _ => Kind::TempDelta,
+        }
+    }
+
+    /// Answers the cases of a side, in their order.
+    fn of(&self, side: Side) -> impl Iterator<Item = &Case> {
+        let is_of_side = move |case: &&Case| case.side == side.byte();
+        self.records.values().filter(is_of_side)
+    }
+
+    /// Answers the key of some record, if there is one.
+    fn some_key(&self, random: &mut Random) -> Option<(u8, u32)> {
+        let index = random.below(self.records.len().max(1));
+        self.records.keys().nth(index).copied()
+    }
+
+    /// Takes a record out.
+    fn remove(&mut self, random: &mut Random) {
+        if let Some(key) = self.some_key(random) {
+            self.records.remove(&key);
+        }
+    }
+
+    /// Gives a record other times; a cancelled one has none and stays.
+    fn change_times(&mut self, random: &mut Random) {
+        let Some(key) = self.some_key(random) else {
+            return;
+        };
+        let kind = Kind::of(key.0).expect("keys are of kinds");
+        let (times, case) = (self.times(random, kind), &self.records[&key]);
+        let changed = case.clone().with_times(times);
+        // A PERMDELTA that mentions nothing needs its life time.
+        if changed.number() == 0 {
+            self.records.insert(key, changed);
+        }
+    }
+
+    /// Gives a record other properties; a cancelled one has none and stays.
+    fn change_parts(&mut self, random: &mut Random) {
+        let Some(key) = self.some_key(random) else {
+            return;
+        };
+        let kind = Kind::of(key.0).expect("keys are of kinds");
+        let changed = self.records[&key]
+            .clone()
+            .with_parts(&self.parts(random, kind));
+        if changed.number() == 0 {
+            self.records.insert(key, changed);
+        }
+    }
+
+    /// Answers an instant of the history, from the given one of its instants on.
+    fn instant(&self, random: &mut Random, from: usize) -> u32 {
+        self.begin + (from + random.below(INSTANTS - from)) as u32
+    }
+
+    /// Answers times that are right for a kind.
+    fn times(&self, random: &mut Random, kind: Kind) -> [u32; 4] {
+        let mut from = random.below(INSTANTS);
+        if kind == Kind::Baseline {
+            // An early begin, for the most part.
+            from = random.below(1 + from / 2);
+        }
+        let begin = self.begin + from as u32;
+        let end = match random.below(2) {
+            0 => NONE,
+            _ if from + 1 == INSTANTS => NONE,
+            _ => self.instant(random, from + 1),
+        };
+        match kind {
+            Kind::Baseline => self.baseline_times(random, begin, end),
+            Kind::TempDelta => [begin, end, NONE, NONE],
+            Kind::PermDelta => match random.below(10) {
+                0 => [begin, NONE, NONE, begin],
+                1 => [begin, NONE, begin, NONE],
+                2..=6 if !self.is_based() => [begin, NONE, begin, NONE],
+                _ => [begin, NONE, NONE, NONE],
+            },
+        }
+    }
+
+    /// Answers the times of a BASELINE of a period.
+    fn baseline_times(&self, random: &mut Random, begin: u32, end: u32) -> [u32; 4] {
+        let life_begin = random.pick(&[NONE, begin, self.begin, 0]);
+        let least = if end == NONE { begin + 1 } else { end };
+        let last = self.begin + INSTANTS as u32;
+        let life_end = match random.below(6) {
+            0 if least < last => least + random.below((last - least) as usize) as u32,
+            _ => NONE,
+        };
+        [begin, end, life_begin, life_end]
+    }
+
+    /// Makes eight parts: all mentioned for a BASELINE, one to three for a delta.
+    fn parts(&self, random: &mut Random, kind: Kind) -> Area {
+        let mut area = match kind {
+            Kind::Baseline => [nil(4); 8],
+            _ => [unmentioned(); 8],
+        };
+        let sound = sound_parts();
+        for _ in 0..=random.below(3) {
+            area[random.below(8)] = match random.below(3) {
+                0 => random.pick(&sound[1..]),
+                _ => code(random.below(1000) as u16),
+            };
+        }
+        area
+    }
+
+    /// Writes the records into the tables.
+    fn write(&mut self) {
+        for side in [Side::Permanent, Side::Temporary] {
+            let records: Vec<Vec<u8>> = self.of(side).map(Case::record).collect();
+            let length = HEADER_BYTES + records.len() * RECORD_BYTES;
+            let written = sample::table(side, &records, length, 0);
+            let table = match side {
+                Side::Permanent => &mut self.tables.permanent,
+                Side::Temporary => &mut self.tables.temporary,
+            };
+            table[..length].copy_from_slice(&written);
+        }
+    }
+}
+
+#[cfg(test)]
+mod tests {
+    use super::*;
+    use crate::question::property;
+    use crate::table::{check, Sides};
+
+    /// Every history is sound, and each answer comes up often.
+    #[test]
+    fn histories_are_sound_and_of_every_sort() {
+        let mut random = Random::new(5);
+        let mut history = History::new(&mut random);
+        let mut counts = BTreeMap::new();
+        for step in 0..600 {
+            if step % 20 == 0 {
+                history = History::new(&mut random);
+            }
+            history.change(&mut random);
+            let tables = history.tables();
+            assert_eq!(check(&tables.permanent, Sides::Permanent), Ok(()));
+            assert_eq!(check(&tables.temporary, Sides::Temporary), Ok(()));
+            for instant in tables.instants() {
+                let part = property(&tables.permanent, &tables.temporary, instant, 0);
+                let answer = part.map(|part| part.map(|part| part.side.byte()));
+                let word = format!("{answer:?}");
+                *counts.entry(word).or_insert(0) += 1;
+            }
+        }
+        assert_eq!(counts.len(), 6, "{counts:?}");
+        assert!(counts.values().all(|&count| count > 100), "{counts:?}");
+    }
+}

@@ -1,0 +1,243 @@
+//! The questions about an instant, by one pass over the records of each table.
+
+use super::{check_table, number, Part, Record, HEADER, NONE};
+use crate::record::Side;
+use crate::refusal::Refusal;
+
+/// The bytes of a property that nothing mentions: nil, unknown.
+const UNKNOWN: Part = {
+    let mut part = [0; 24];
+    part[0] = 1;
+    part[1] = 4;
+    part
+};
+
+/// The times of a record and where they stand in it.
+const BEGIN: usize = 8;
+const END: usize = 12;
+const LIFE_BEGIN: usize = 16;
+const LIFE_END: usize = 20;
+
+/// The table of a property's bytes, and where they begin in it, if anything mentions it.
+type Place = Option<(Side, usize)>;
+
+/// Something that the latest record so far has said, and when in the order of changes that was.
+#[derive(Clone, Copy)]
+struct Latest<T> {
+    turn: u64,
+    said: T,
+}
+
+impl<T> Latest<T> {
+    /// Takes what a record says, unless a later one has spoken.
+    fn hear(&mut self, turn: u64, said: T) {
+        if turn > self.turn {
+            *self = Latest { turn, said };
+        }
+    }
+}
+
+/// The records of the permanent table that are applied at an instant.
+struct Line<'a> {
+    anchor: &'a Record,
+    /// The turn after which changes are applied, and the changes that may be.
+    after: u64,
+    changes: &'a [Record],
+    instant: u32,
+}
+
+/// Writes the permanent state at an instant.
+pub fn permanent_state(permanent: &[u8], instant: u32, record: &mut [u8]) -> Result<(), Refusal> {
+    let records = check_table(permanent, 0..=0)?;
+    let record = check_asked(instant, record)?;
+    let (life, parts) = Line::at(records, instant)?.state()?;
+    write(record, instant, life, &parts);
+    Ok(())
+}
+
+/// Writes the snapshot at an instant.
+pub fn snapshot(tables: [&[u8]; 2], instant: u32, record: &mut [u8]) -> Result<(), Refusal> {
+    let [lasting, passing] = check_tables(tables)?;
+    let record = check_asked(instant, record)?;
+    let (life, mut parts) = Line::at(lasting, instant)?.state()?;
+    for delta in passing.iter().filter(|delta| holds(delta, instant)) {
+        for (latest, part) in parts.iter_mut().zip(parts_of(delta)) {
+            if part[0] != 0 {
+                *latest = part;
+            }
+        }
+    }
+    write(record, instant, life, &parts);
+    Ok(())
+}
+
+/// Answers the table whose record mentions a property last, and the place of the bytes in it.
+pub fn property(tables: [&[u8]; 2], instant: u32, number: u8) -> Result<Place, Refusal> {
+    let [lasting, passing] = check_tables(tables)?;
+    let property = usize::from(number);
+    if instant == NONE || property > 7 {
+        return Err(Refusal::Asked);
+    }
+    let last = Line::at(lasting, instant)?.last_mention(property)?;
+    let is_mention = |delta: &Record| holds(delta, instant) && parts_of(delta)[property][0] != 0;
+    let place = |index: usize| HEADER + 224 * index + 32 + 24 * property;
+    if let Some(index) = passing.iter().rposition(is_mention) {
+        return Ok(Some((Side::Temporary, place(index))));
+    }
+    Ok(last.map(|record| {
+        let index = lasting
+            .element_offset(record)
+            .expect("a record of the table");
+        (Side::Permanent, place(index))
+    }))
+}
+
+/// Answers the records of both tables, or the first refusal, 1 to 8.
+fn check_tables([permanent, temporary]: [&[u8]; 2]) -> Result<[&[Record]; 2], Refusal> {
+    let lasting = check_table(permanent, 0..=0)?;
+    let passing = check_table(temporary, 1..=1)?;
+    if permanent[8..24] != temporary[8..24] {
+        return Err(Refusal::OtherFeature);
+    }
+    Ok([lasting, passing])
+}
+
+/// Answers the record that is to be written, or 19 or 23.
+fn check_asked(instant: u32, record: &mut [u8]) -> Result<&mut Record, Refusal> {
+    if instant == NONE {
+        return Err(Refusal::Asked);
+    }
+    record.try_into().map_err(|_| Refusal::Buffer)
+}
+
+/// Answers the eight properties of a record.
+fn parts_of(record: &Record) -> &[Part; 8] {
+    let (parts, _) = record[32..].as_chunks();
+    parts.try_into().expect("192 bytes are eight properties")
+}
+
+/// Answers whether a record is counted and its period has the instant. A cancelled record has no
+/// begin, and "none" is above every instant.
+fn holds(record: &Record, instant: u32) -> bool {
+    number(record, BEGIN) <= instant && instant < number(record, END)
+}
+
+/// Answers the instant and the sequence number of a change as one number that rises as they do.
+fn turn(record: &Record) -> u64 {
+    u64::from(number(record, BEGIN)) << 32 | u64::from(number(record, 4))
+}
+
+impl<'a> Line<'a> {
+    /// Answers what is applied at an instant, or 21 or 20.
+    fn at(records: &'a [Record], instant: u32) -> Result<Line<'a>, Refusal> {
+        let (baselines, changes) = records.split_at(records.partition_point(|one| one[0] == 1));
+        let mut anchors = baselines.iter().filter(|one| holds(one, instant));
+        let (anchor, after) = if let Some(baseline) = anchors.next() {
+            (baseline, turn(baseline) | u64::from(u32::MAX))
+        } else {
+            let opening = Line::opening(changes, instant)?;
+            (opening, turn(opening))
+        };
+        if anchors.next().is_some() {
+            return Err(Refusal::TwoAnchors);
+        }
+        Ok(Line {
+            anchor,
+            after,
+            changes,
+            instant,
+        })
+    }
+
+    /// Answers the only opening by an instant, or 21 or 20.
+    fn opening(changes: &'a [Record], instant: u32) -> Result<&'a Record, Refusal> {
+        let mut openings = changes
+            .iter()
+            .filter(|one| number(one, LIFE_BEGIN) != NONE && holds(one, instant));
+        let opening = openings.next().ok_or(Refusal::NoState)?;
+        match openings.next() {
+            Some(_) => Err(Refusal::TwoAnchors),
+            None => Ok(opening),
+        }
+    }
+
+    /// Answers the changes that are applied, with their turns, as they are stored.
+    fn changes(&self) -> impl Iterator<Item = (u64, &'a Record)> {
+        let (after, instant) = (self.after, self.instant);
+        self.changes
+            .iter()
+            .map(|change| (turn(change), change))
+            .filter(move |(turn, change)| *turn > after && holds(change, instant))
+    }
+
+    /// Makes a latest that the anchor said.
+    fn said<T>(&self, said: T) -> Latest<T> {
+        Latest {
+            turn: self.after,
+            said,
+        }
+    }
+
+    /// Answers 22 where a life end is given and reached.
+    fn check_life(&self, life_end: u32) -> Result<(), Refusal> {
+        if life_end <= self.instant {
+            return Err(Refusal::Withdrawn);
+        }
+        Ok(())
+    }
+
+    /// Answers the life times and the properties of the permanent state, or 22.
+    fn state(&self) -> Result<([u32; 2], [&'a Part; 8]), Refusal> {
+        let mut parts = parts_of(self.anchor).each_ref().map(|part| self.said(part));
+        let mut life = [LIFE_BEGIN, LIFE_END].map(|at| self.said(number(self.anchor, at)));
+        for (turn, change) in self.changes() {
+            for (latest, part) in parts.iter_mut().zip(parts_of(change)) {
+                if part[0] != 0 {
+                    latest.hear(turn, part);
+                }
+            }
+            for (latest, at) in life.iter_mut().zip([LIFE_BEGIN, LIFE_END]) {
+                if number(change, at) != NONE {
+                    latest.hear(turn, number(change, at));
+                }
+            }
+        }
+        let life = life.map(|latest| latest.said);
+        self.check_life(life[1])?;
+        Ok((life, parts.map(|latest| latest.said)))
+    }
+
+    /// Answers the record that mentions a property last, if one does, or 22.
+    fn last_mention(&self, property: usize) -> Result<Option<&'a Record>, Refusal> {
+        let mut last = self.said(self.anchor);
+        let mut life_end = self.said(number(self.anchor, LIFE_END));
+        for (turn, change) in self.changes() {
+            if parts_of(change)[property][0] != 0 {
+                last.hear(turn, change);
+            }
+            if number(change, LIFE_END) != NONE {
+                life_end.hear(turn, number(change, LIFE_END));
+            }
+        }
+        self.check_life(life_end.said)?;
+        Ok(Some(last.said).filter(|record| parts_of(record)[property][0] != 0))
+    }
+}
+
+/// Writes a state as the record of an instant.
+fn write(record: &mut Record, instant: u32, life: [u32; 2], parts: &[&Part; 8]) {
+    record[..8].copy_from_slice(&[4, 0, 0, 0, 0, 0, 0, 0]);
+    for (at, time) in [
+        (BEGIN, instant),
+        (END, NONE),
+        (LIFE_BEGIN, life[0]),
+        (LIFE_END, life[1]),
+    ] {
+        record[at..at + 4].copy_from_slice(&time.to_be_bytes());
+    }
+    record[24..32].fill(0);
+    let (places, _) = record[32..].as_chunks_mut();
+    for (place, part) in places.iter_mut().zip(parts) {
+        *place = if part[0] == 0 { UNKNOWN } else { **part };
+    }
+}

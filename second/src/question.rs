@@ -1,0 +1,113 @@
+//! The questions about an instant: the permanent state, the snapshot, and one property.
+
+use crate::property::{PROPERTIES, PROPERTY_BYTES};
+use crate::record::{Instant, Record, Side, HEAD_BYTES, RECORD_BYTES};
+use crate::refusal::{hold, Refusal};
+use crate::state::{lasting, mentions, passing, State};
+use crate::table::{Sides, Table, HEADER_BYTES};
+use std::fmt;
+
+/// A property's bytes, and where they stand in the table of a side.
+#[derive(Clone, Copy, Debug, PartialEq)]
+pub struct Part {
+    pub side: Side,
+    pub place: usize,
+    pub bytes: [u8; PROPERTY_BYTES],
+}
+
+/// Answers a permanent and a temporary table of one feature, or the first refusal, 1 to 8.
+fn both(permanent: &[u8], temporary: &[u8]) -> Result<(Table, Table), Refusal> {
+    let permanent = Table::read(permanent, Sides::Permanent)?;
+    let temporary = Table::read(temporary, Sides::Temporary)?;
+    hold(
+        permanent.feature == temporary.feature,
+        Refusal::OtherFeature,
+    )?;
+    Ok((permanent, temporary))
+}
+
+/// Answers the instant that is asked for, or 19 where it is "none".
+fn asked(instant: u32) -> Result<Instant, Refusal> {
+    Instant::given(instant).ok_or(Refusal::Asked)
+}
+
+/// Answers 23 where a state is not to be written into exactly one record.
+fn fits(record: &[u8]) -> Result<(), Refusal> {
+    hold(record.len() == RECORD_BYTES, Refusal::Buffer)
+}
+
+/// Writes what applied records leave as the record of an instant.
+fn write(applied: &[&Record], instant: Instant, record: &mut [u8]) {
+    let state = State::after(applied).record(instant);
+    record.copy_from_slice(&state.write());
+}
+
+/// Writes the permanent state at an instant; a refused question changes no byte.
+pub fn permanent_state(permanent: &[u8], instant: u32, record: &mut [u8]) -> Result<(), Refusal> {
+    let table = Table::read(permanent, Sides::Permanent)?;
+    let instant = asked(instant)?;
+    fits(record)?;
+    write(&lasting(&table, instant)?, instant, record);
+    Ok(())
+}
+
+/// Writes the snapshot at an instant; a refused question changes no byte.
+pub fn snapshot(
+    permanent: &[u8],
+    temporary: &[u8],
+    instant: u32,
+    record: &mut [u8],
+) -> Result<(), Refusal> {
+    let (permanent, temporary) = both(permanent, temporary)?;
+    let instant = asked(instant)?;
+    fits(record)?;
+    let mut applied = lasting(&permanent, instant)?;
+    applied.extend(passing(&temporary, instant));
+    write(&applied, instant, record);
+    Ok(())
+}
+
+/// Answers the part of the table whose record mentions the property last, if one does.
+pub fn property(
+    permanent: &[u8],
+    temporary: &[u8],
+    instant: u32,
+    property: u8,
+) -> Result<Option<Part>, Refusal> {
+    let (permanent, temporary) = both(permanent, temporary)?;
+    let instant = asked(instant)?;
+    let property = usize::from(property);
+    hold(property < PROPERTIES, Refusal::Asked)?;
+    let lasting = lasting(&permanent, instant)?.into_iter();
+    let passing = passing(&temporary, instant).into_iter();
+    let of_permanent = lasting.map(|record| (&permanent, record));
+    let of_temporary = passing.map(|record| (&temporary, record));
+    let last = of_permanent
+        .chain(of_temporary)
+        .rfind(|(_, record)| mentions(record, property));
+    Ok(last.map(|(table, record)| Part::of(table, record, property)))
+}
+
+impl Part {
+    /// Answers the part of a property that a record of the table mentions.
+    fn of(table: &Table, record: &Record, property: usize) -> Part {
+        let index = table.records.keys().position(|key| *key == record.key());
+        let index = index.expect("the record is one of the table");
+        let value = record.properties[property].expect("a mentioned property has a value");
+        Part {
+            side: table.side,
+            place: HEADER_BYTES + index * RECORD_BYTES + HEAD_BYTES + property * PROPERTY_BYTES,
+            bytes: value.write(),
+        }
+    }
+}
+
+impl fmt::Display for Side {
+    /// Writes the side in the paper's word.
+    fn fmt(&self, out: &mut fmt::Formatter) -> fmt::Result {
+        out.write_str(match self {
+            Side::Permanent => "permanent",
+            Side::Temporary => "temporary",
+        })
+    }
+}

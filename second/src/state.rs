@@ -1,0 +1,305 @@
+//! What is known at an instant: the anchor, the records that are applied after it, one by one in
+//! their order, and what comes out of them.
+
+use crate::property::{Reason, Value, PROPERTIES};
+use crate::record::{Correction, Head, Instant, Kind, Record, Sequence, Span};
+use crate::refusal::{hold, Refusal};
+use crate::table::Table;
+
+/// The kind byte of a state that is written as a record.
+const STATE: u8 = 4;
+
+/// The life times and the properties that applied records leave; a property that none of them
+/// mentions has no value.
+#[derive(Clone, Copy, Debug, PartialEq)]
+pub struct State {
+    life: Span,
+    properties: [Option<Value>; PROPERTIES],
+}
+
+/// Answers the counted records of a kind whose period has the instant, by rising sequence number.
+fn counted(table: &Table, kind: Kind, instant: Instant) -> impl Iterator<Item = &Record> {
+    let is_counted = |record: &&Record| !record.head.is_cancelled();
+    table
+        .records
+        .values()
+        .filter(is_counted)
+        .filter(move |record| record.head.kind == kind.byte() && record.head.period.has(instant))
+}
+
+/// Answers the only one of some anchors, if there is one; 21 where there are more.
+fn only<'a>(anchors: impl Iterator<Item = &'a Record>) -> Result<Option<&'a Record>, Refusal> {
+    let anchors: Vec<&Record> = anchors.collect();
+    hold(anchors.len() <= 1, Refusal::TwoAnchors)?;
+    Ok(anchors.first().copied())
+}
+
+/// Answers the anchor: the BASELINE at the instant, or else the opening PERMDELTA by then; or 21 or 20.
+fn anchor(table: &Table, instant: Instant) -> Result<&Record, Refusal> {
+    if let Some(baseline) = only(counted(table, Kind::Baseline, instant))? {
+        return Ok(baseline);
+    }
+    let is_opening = |record: &&Record| record.head.life.begin.is_some();
+    let openings = counted(table, Kind::PermDelta, instant).filter(is_opening);
+    only(openings)?.ok_or(Refusal::NoState)
+}
+
+/// Answers what PERMDELTAs are applied by: the instant, then the sequence number.
+fn turn(record: &Record) -> (Option<Instant>, Sequence) {
+    (record.head.period.begin, record.head.sequence)
+}
+
+/// Answers whether a PERMDELTA is applied after an anchor: a BASELINE has in it what is at its begin.
+fn follows(change: &Record, anchor: &Record) -> bool {
+    if anchor.head.kind == Kind::Baseline.byte() {
+        change.head.period.begin > anchor.head.period.begin
+    } else {
+        turn(change) > turn(anchor)
+    }
+}
+
+/// Answers the records of the permanent state as they are applied, the anchor first; or 21, 20 or 22.
+pub fn lasting(table: &Table, instant: Instant) -> Result<Vec<&Record>, Refusal> {
+    let anchor = anchor(table, instant)?;
+    let mut applied: Vec<&Record> = counted(table, Kind::PermDelta, instant)
+        .filter(|change| follows(change, anchor))
+        .collect();
+    applied.sort_by_key(|change| turn(change));
+    applied.insert(0, anchor);
+    let life_end = State::after(&applied).life.end;
+    hold(life_end.is_none_or(|end| end > instant), Refusal::Withdrawn)?;
+    Ok(applied)
+}
+
+/// Answers the TEMPDELTAs of the instant as they are applied.
+pub fn passing(table: &Table, instant: Instant) -> Vec<&Record> {
+    counted(table, Kind::TempDelta, instant).collect()
+}
+
+/// Answers whether a record mentions a property.
+pub fn mentions(record: &Record, property: usize) -> bool {
+    record.properties[property].is_some_and(|value| value.is_mention())
+}
+
+impl State {
+    /// Nothing is known.
+    const NOTHING: State = State {
+        life: Span::NEITHER,
+        properties: [None; PROPERTIES],
+    };
+
+    /// Answers what records leave that are applied one after the other.
+    pub fn after(applied: &[&Record]) -> State {
+        applied
+            .iter()
+            .fold(State::NOTHING, |state, record| state.with(record))
+    }
+
+    /// Answers the state once a record replaced what it mentions, and each life time that it gives.
+    fn with(self, record: &Record) -> State {
+        let given = record.head.life;
+        let mut properties = self.properties;
+        for (index, property) in properties.iter_mut().enumerate() {
+            if mentions(record, index) {
+                *property = record.properties[index];
+            }
+        }
+        let life = Span {
+            begin: given.begin.or(self.life.begin),
+            end: given.end.or(self.life.end),
+        };
+        State { life, properties }
+    }
+
+    /// Answers the state as the record of an instant; what nothing mentions is nil, unknown.
+    pub fn record(&self, instant: Instant) -> Record {
+        let head = Head {
+            kind: STATE,
+            flags: 0,
+            correction: Correction(0),
+            sequence: Sequence(0),
+            period: Span {
+                begin: Some(instant),
+                end: None,
+            },
+            life: self.life,
+            spare: [0; 8],
+        };
+        let unknown = Value::Nil(Reason::Unknown);
+        Record {
+            head,
+            properties: self.properties.map(|value| value.or(Some(unknown))),
+        }
+    }
+}
+
+#[cfg(test)]
+mod tests {
+    use super::*;
+    use crate::record::{Side, NONE};
+    use crate::refusal::number_of;
+    use std::collections::BTreeMap;
+
+    /// Makes a record: kind, sequence number and four times; a code in property 0.
+    fn record(kind: Kind, sequence: u32, [begin, end, born, gone]: [u32; 4]) -> Record {
+        let mut properties = [Some(Value::Unmentioned); PROPERTIES];
+        properties[0] = Some(Value::Code(sequence as u16));
+        let head = Head {
+            kind: kind.byte(),
+            flags: 0,
+            correction: Correction(0),
+            sequence: Sequence(sequence),
+            period: Span::new(begin, end),
+            life: Span::new(born, gone),
+            spare: [0; 8],
+        };
+        Record { head, properties }
+    }
+
+    /// Makes a BASELINE of a period and a life.
+    fn baseline(sequence: u32, times: [u32; 4]) -> Record {
+        record(Kind::Baseline, sequence, times)
+    }
+
+    /// Makes a PERMDELTA that gives no life time.
+    fn change(sequence: u32, instant: u32) -> Record {
+        record(Kind::PermDelta, sequence, [instant, NONE, NONE, NONE])
+    }
+
+    /// Makes an opening PERMDELTA.
+    fn opening(sequence: u32, instant: u32) -> Record {
+        record(Kind::PermDelta, sequence, [instant, NONE, instant, NONE])
+    }
+
+    /// Makes a PERMDELTA that ends the life.
+    fn closing(sequence: u32, instant: u32) -> Record {
+        record(Kind::PermDelta, sequence, [instant, NONE, NONE, instant])
+    }
+
+    /// Makes a table of records, in any order.
+    fn table(records: &[Record]) -> Table {
+        let records: BTreeMap<_, _> = records.iter().map(|one| (one.key(), *one)).collect();
+        Table {
+            side: Side::Permanent,
+            feature: [0; 16],
+            room: records.len(),
+            records,
+        }
+    }
+
+    /// Answers the sequence numbers of what is applied at an instant, or the number of the refusal.
+    fn applied(records: &[Record], instant: u32) -> Result<Vec<u32>, u8> {
+        let table = table(records);
+        let applied = lasting(&table, Instant(instant)).map_err(Refusal::number)?;
+        Ok(applied.iter().map(|one| one.head.sequence.0).collect())
+    }
+
+    /// "rising by instant, then sequence number: those strictly later than a BASELINE anchor's begin".
+    #[test]
+    fn changes_after_a_baseline_go_by_instant_then_sequence() {
+        let anchor = baseline(7, [100, NONE, NONE, NONE]);
+        let changes = [
+            change(9, 99),
+            change(8, 100),
+            change(6, 101),
+            change(5, 150),
+        ];
+        let records = [&[anchor], &changes[..], &[change(4, 150), change(3, 151)]].concat();
+        assert_eq!(applied(&records, 99), Err(20));
+        assert_eq!(applied(&records, 100), Ok(vec![7]));
+        assert_eq!(applied(&records, 150), Ok(vec![7, 6, 4, 5]));
+        assert_eq!(applied(&records, NONE - 1), Ok(vec![7, 6, 4, 5, 3]));
+    }
+
+    /// "or those after an opening anchor in that same order".
+    #[test]
+    fn changes_after_an_opening_go_by_the_same_order() {
+        let changes = [
+            change(9, 99),
+            change(4, 100),
+            change(6, 100),
+            change(1, 101),
+        ];
+        let records = [&[opening(5, 100)], &changes[..]].concat();
+        assert_eq!(applied(&records, 99), Err(20));
+        assert_eq!(applied(&records, 100), Ok(vec![5, 6]));
+        assert_eq!(applied(&records, 101), Ok(vec![5, 6, 1]));
+    }
+
+    /// "Two or more: 21"; "If there is none: an opening PERMDELTA".
+    #[test]
+    fn a_baseline_comes_before_openings() {
+        let openings = [opening(1, 100), opening(2, 200)];
+        assert_eq!(applied(&openings, 199), Ok(vec![1]));
+        assert_eq!(applied(&openings, 200), Err(21));
+        let base = baseline(3, [150, 250, NONE, NONE]);
+        let records = [&openings[..], &[base]].concat();
+        assert_eq!(applied(&records, 150), Ok(vec![3]));
+        assert_eq!(applied(&records, 200), Ok(vec![3, 2]));
+        assert_eq!(applied(&records, 250), Err(21));
+        let records = [&records[..], &[baseline(4, [249, 250, NONE, NONE])]].concat();
+        assert_eq!(applied(&records, 248), Ok(vec![3, 2]));
+        assert_eq!(applied(&records, 249), Err(21));
+    }
+
+    /// "If the life end is then given and at most t: 22."
+    #[test]
+    fn a_life_ends() {
+        let base = baseline(1, [100, NONE, 50, 300]);
+        assert_eq!(applied(&[base], 299), Ok(vec![1]));
+        assert_eq!(applied(&[base], 300), Err(22));
+        let records = [base, closing(2, 200)];
+        assert_eq!(applied(&records, 199), Ok(vec![1]));
+        assert_eq!(applied(&records, 200), Err(22));
+        let records = [records[0], records[1], baseline(3, [150, 250, NONE, NONE])];
+        assert_eq!(applied(&records[1..], 199), Ok(vec![3]));
+        assert_eq!(applied(&records[1..], 200), Err(22));
+        assert_eq!(
+            applied(&[closing(2, 200), opening(3, 200)], 200),
+            Ok(vec![3])
+        );
+        assert_eq!(applied(&[closing(4, 200), opening(3, 200)], 200), Err(22));
+    }
+
+    /// "Each replaces what it mentions, and a life time it gives."
+    #[test]
+    fn life_times_are_replaced_one_by_one() {
+        let base = baseline(1, [100, NONE, 50, 300]);
+        let state = State::after(&[&base, &opening(2, 150), &change(3, 160)]);
+        assert_eq!(state.life, Span::new(150, 300));
+        assert_eq!(state.properties[0], Some(Value::Code(3)));
+        assert_eq!(state.properties[1], None);
+        let written = state.record(Instant(170));
+        assert_eq!(written.properties[1], Some(Value::Nil(Reason::Unknown)));
+        assert_eq!(written.head.period, Span::new(170, NONE));
+    }
+
+    /// "Cancelled records stay stored and take no further part."
+    #[test]
+    fn cancelled_records_do_not_count() {
+        let mut other = baseline(2, [100, NONE, NONE, NONE]);
+        let records = [baseline(1, [100, NONE, NONE, NONE]), other];
+        assert_eq!(applied(&records, 100), Err(21));
+        other.head.flags = 1;
+        assert_eq!(applied(&[records[0], other], 100), Ok(vec![1]));
+        let none = lasting(&table(&[other]), Instant(100)).map(|_| ());
+        assert_eq!(number_of(none), 20);
+    }
+
+    /// "TEMPDELTAs with begin at most t and t before end (none runs on), rising by sequence number".
+    #[test]
+    fn passing_records_go_by_sequence() {
+        let delta =
+            |sequence, begin, end| record(Kind::TempDelta, sequence, [begin, end, NONE, NONE]);
+        let table = table(&[delta(3, 90, 100), delta(2, 100, NONE), delta(1, 120, 121)]);
+        let at = |instant| -> Vec<u32> {
+            let passing = passing(&table, Instant(instant));
+            passing.iter().map(|one| one.head.sequence.0).collect()
+        };
+        assert_eq!(at(89), []);
+        assert_eq!(at(99), [3]);
+        assert_eq!(at(100), [2]);
+        assert_eq!(at(120), [1, 2]);
+        assert_eq!(at(121), [2]);
+    }
+}

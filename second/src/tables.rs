@@ -1,0 +1,81 @@
+//! The two tables of a feature, and the instants that matter in them.
+
+use crate::record::{Kind, Record, Side, NONE, RECORD_BYTES};
+use crate::table::{Sides, Table, HEADER_BYTES};
+use crate::vectors::sample::{self, Case};
+use std::collections::BTreeSet;
+
+/// The bytes of a permanent and of a temporary table.
+#[derive(Clone, Default, PartialEq)]
+pub struct Tables {
+    pub permanent: Vec<u8>,
+    pub temporary: Vec<u8>,
+}
+
+/// What is asked about two tables at an instant; the permanent state is asked of one of them.
+#[derive(Clone, Copy, Debug, PartialEq)]
+pub enum Question {
+    State,
+    Snapshot,
+    Property(u8),
+}
+
+impl Tables {
+    /// Makes the full tables of some cases, each of which goes to its side and its place.
+    pub fn of(cases: &[Case]) -> Tables {
+        let side = |side| {
+            let mut records: Vec<Vec<u8>> = cases
+                .iter()
+                .map(Case::record)
+                .filter(|record| Kind::of(record[0]).map(Kind::side) == Some(side))
+                .collect();
+            records.sort_by_key(|record| (record[0], record[4..8].to_vec()));
+            let length = HEADER_BYTES + records.len() * RECORD_BYTES;
+            sample::table(side, &records, length, 0)
+        };
+        Tables {
+            permanent: side(Side::Permanent),
+            temporary: side(Side::Temporary),
+        }
+    }
+
+    /// Answers every time that a record of a sound table gives, and the instants beside it, rising.
+    pub fn instants(&self) -> Vec<u32> {
+        let tables = [&self.permanent, &self.temporary];
+        let sound = tables
+            .into_iter()
+            .filter_map(|bytes| Table::read(bytes, Sides::Both).ok());
+        let times = sound
+            .flat_map(|table| table.records.into_values().flat_map(times))
+            .flat_map(|time| [time.saturating_sub(1), time, time + 1]);
+        let instants: BTreeSet<u32> = times.filter(|&time| time != NONE).collect();
+        instants.into_iter().collect()
+    }
+}
+
+/// Answers the times that a record gives.
+fn times(record: Record) -> impl Iterator<Item = u32> {
+    let (period, life) = (record.head.period, record.head.life);
+    [period.begin, period.end, life.begin, life.end]
+        .into_iter()
+        .flatten()
+        .map(|instant| instant.0)
+}
+
+#[cfg(test)]
+mod tests {
+    use super::*;
+
+    /// BASELINE 100 to 200 in a life from 50 to 300, PERMDELTA 150, TEMPDELTA 120 to 140.
+    #[test]
+    fn instants_are_at_and_beside_each_time() {
+        let cases = [Kind::TempDelta, Kind::PermDelta, Kind::Baseline].map(Case::usual);
+        let tables = Tables::of(&cases);
+        assert_eq!((tables.permanent[7], tables.temporary[7]), (2, 1));
+        let times = [50, 100, 120, 140, 150, 200, 300];
+        let expected: Vec<u32> = times.iter().flat_map(|&time| time - 1..=time + 1).collect();
+        assert_eq!(tables.instants(), expected);
+        let edge = Case::usual(Kind::TempDelta).with_times([0, NONE - 1, NONE, NONE]);
+        assert_eq!(Tables::of(&[edge]).instants(), [0, 1, NONE - 2, NONE - 1]);
+    }
+}

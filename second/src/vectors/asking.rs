@@ -1,0 +1,131 @@
+//! The asks about an instant.
+
+use super::format::{changes, digits, instant_line, line, record_line, table_lines};
+use super::format::{EXCHANGE, RECORD_BYTES, TABLE_BYTES};
+use super::sample::Case;
+use super::{refused, Script};
+use crate::question::{permanent_state, property, snapshot, Part};
+use crate::record::{Side, RECORD_BYTES as WHOLE};
+use crate::refusal::Refusal;
+use crate::tables::{Question, Tables};
+
+/// Answers the word of a written record, or the number of the refusal.
+pub fn written(written: Result<(), Refusal>) -> String {
+    written.map_or_else(refused, |()| "written".to_string())
+}
+
+/// Answers the words of a property question: which table, where, and the bytes.
+pub fn found(part: Result<Option<Part>, Refusal>) -> String {
+    let place = |part: Part| format!("{} {} {}", part.side, part.place, digits(&part.bytes));
+    part.map_or_else(refused, |part| {
+        part.map_or("unmentioned".to_string(), place)
+    })
+}
+
+impl Script {
+    /// Asks a question about two tables at an instant; a state or snapshot goes into the record.
+    pub fn ask_question(
+        &mut self,
+        tables: &Tables,
+        instant: u32,
+        question: Question,
+        record: &[u8],
+    ) {
+        let mut lines = self.set_tables(&tables.permanent, &tables.temporary);
+        lines.extend(self.set_instant(instant));
+        let (table, other) = (&self.made.table, &self.made.other);
+        if let Question::Property(number) = question {
+            let answer = found(property(table, other, instant, number));
+            return self.ask(lines, line('v', &[number]), answer);
+        }
+        let mut after = record.to_vec();
+        let (letter, answer) = match question {
+            Question::State => ('g', permanent_state(table, instant, &mut after)),
+            _ => ('n', snapshot(table, other, instant, &mut after)),
+        };
+        let answer = written(answer) + &changes(record, &after);
+        lines.extend(self.set_record(record));
+        self.made.record = after;
+        self.ask(lines, line(letter, &[]), answer);
+    }
+
+    /// Asks for the permanent state, the snapshot and some properties at instants, into what the last
+    /// of them left, or after a title into a new record.
+    pub fn ask_at(&mut self, tables: &Tables, instants: &[u32], properties: &[u8]) {
+        for &instant in instants {
+            for question in [Question::State, Question::Snapshot] {
+                let record = self.next_record();
+                self.ask_question(tables, instant, question, &record);
+            }
+            for &number in properties {
+                self.ask_property(tables, instant, number);
+            }
+        }
+    }
+
+    /// Answers the record that the next state goes into.
+    pub fn next_record(&mut self) -> Vec<u8> {
+        let is_new = std::mem::take(&mut self.is_begun) || self.made.record.len() != WHOLE;
+        match is_new {
+            true => vec![0xa5; WHOLE],
+            false => self.made.record.clone(),
+        }
+    }
+
+    /// Asks about the tables of some slices at and beside each of their times.
+    pub fn ask_history(&mut self, cases: &[Case], properties: &[u8]) {
+        let tables = Tables::of(cases);
+        self.ask_at(&tables, &tables.instants(), properties);
+    }
+
+    /// Asks for the arrival of a slice at the table of its side, with the other table kept.
+    pub fn bring(&mut self, tables: &mut Tables, case: &Case) {
+        let Tables {
+            permanent,
+            temporary,
+        } = tables;
+        let (own, other) = match Side::of(case.side) {
+            Some(Side::Temporary) => (temporary, permanent),
+            _ => (permanent, temporary),
+        };
+        let lines = self.set_tables(own, other);
+        self.ask_arrival_after(lines, &case.slice);
+        own.clone_from(&self.made.table);
+    }
+
+    /// Asks for a property at an instant.
+    pub fn ask_property(&mut self, tables: &Tables, instant: u32, number: u8) {
+        self.ask_question(tables, instant, Question::Property(number), &[]);
+    }
+
+    /// Changes the table and the other one; answers the lines that do so.
+    fn set_tables(&mut self, table: &[u8], other: &[u8]) -> Vec<String> {
+        assert!(table.len() <= TABLE_BYTES);
+        let mut lines = vec![];
+        if self.made.other != other {
+            lines = self.set_table(other);
+            lines.push(EXCHANGE.to_string());
+            std::mem::swap(&mut self.made.table, &mut self.made.other);
+        }
+        lines.extend(table_lines(&self.made.table, &self.made.before, table));
+        self.made.table = table.to_vec();
+        lines
+    }
+
+    /// Changes the instant; answers the line that does so, if one is needed.
+    fn set_instant(&mut self, instant: u32) -> Option<String> {
+        let line = (self.made.instant != instant).then(|| instant_line(instant));
+        self.made.instant = instant;
+        line
+    }
+
+    /// Changes the record to one of one value; answers the line that does so, if one is needed.
+    fn set_record(&mut self, bytes: &[u8]) -> Option<String> {
+        if self.made.record == bytes {
+            return None;
+        }
+        let value = bytes.first().copied().unwrap_or(0);
+        assert!(bytes.len() <= RECORD_BYTES && bytes.iter().all(|byte| *byte == value));
+        Some(record_line(bytes.len(), value))
+    }
+}
