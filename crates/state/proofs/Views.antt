@@ -1,38 +1,27 @@
 -- What a record's bytes say, field by field: the tests on a slice are those on the bytes that say it. Assumes nothing.
 use Prim.Native.Nat.{ℕ, zero, suc, _+_, _*_, _≤_, _<_}
 use mathlib.Core.Path.{_≡_, refl, sym, ap, _∙_}
-use mathlib.Core.List.{List, []}
+use mathlib.Core.List.{List}
 use mathlib.Core.Bool.{true, not}
 use native.Mathlib.Omega.{arith}
-use lib.ListN.{length, getD, take, drop, List·getD-eq-default, List·getD-map}
+use lib.ListN.{length, take, drop, List·getD-eq-default}
 use lib.Dec.{eqb, ltb}
-use lib.Seq.{drop-drop, getD-take, getD-drop}
-use Rattle.laws.proofs.Pieces.{piece-at}
+use lib.Seq.{getD-take, getD-drop}
 use Rattle.laws.proofs.Tests.{tests}
 use Rattle.octets.specs.Bytes.{byteOf}
-use Rattle.property.specs.Eight.{propertiesOf, mentioned}
+use Rattle.property.specs.Eight.{mentioned}
 use Rattle.numbers.specs.Numbers.{given}
-use Rattle.slice.specs.Record.{recordSize, lifeOf, partsOf, propertyOf, unmentioned, Slice, viewOf}
+use Rattle.slice.specs.Record.{recordSize, lifeOf, Slice, viewOf}
 use Rattle.slice.proofs.View.{property-mentioned}
 use Rattle.numbers.specs.declared.Instant.{Instant}
 use Rattle.history.specs.Period.{until}
 use Rattle.history.specs.Anchor.{stands}
 use Rattle.state.specs.Steps.{standsAlone}
 use Rattle.history.specs.Source.{mentions}
+use Rattle.state.proofs.Slices.{propertyAt, view-property}
 use Rattle.history.specs.Parts.{tells}
 
--- the bytes of property q of a record
-abbrev pub propertyIn : ℕ → ℕ → List ℕ → List ℕ
-propertyIn stride q r = take stride (drop (32 + q * stride) r)
-
 module _ (stride : ℕ) (r : List ℕ) where
-  -- property q of the slice that a record says
-  pub property-at : (q : ℕ) → q < 8 → getD (viewOf stride r .properties) q unmentioned ≡ propertyOf (propertyIn stride q r)
-  unfolding viewOf propertiesOf mentioned
-  property-at q h =
-      List·getD-map propertyOf (partsOf stride r) q []
-      ∙ ap propertyOf (piece-at stride 8 (drop 32 r) [] q h ∙ ap (take stride) (drop-drop (q * stride) 32 r))
-
   first-byte : (at : ℕ) → (stride ≡ 0 → length r ≤ at) → byteOf (take stride (drop at r)) 0 ≡ byteOf r at
   first-byte at h = go stride refl
     where
@@ -49,7 +38,7 @@ module _ (stride : ℕ) (r : List ℕ) where
   unfolding tells mentions mentioned
   tells-property q h l =
       let y : ltb q 8 ≡ true = omega tests in
-      rw (y, property-at q h, property-mentioned (propertyIn stride q r), first-byte (32 + q * stride) (λ e. empty q e l))
+      rw (y, view-property stride r q h, property-mentioned (propertyAt stride r q), first-byte (32 + q * stride) (λ e. empty q e l))
 
   -- parts 8 and 9 are the life begin and the life end
   pub tells-begin : given (lifeOf r .begin) ≡ tells 8 (viewOf stride r)

@@ -20,7 +20,7 @@ pub fn within(s: &[u8], n: usize) -> usize
 }
 
 // Where the n bytes of s from a place on end, or those of them that s has.
-pub fn end_of(s: &[u8], from: usize, n: usize) -> usize
+pub(crate) fn end_of(s: &[u8], from: usize, n: usize) -> usize
     requires { ⌜ from ≤ length (now s) ⌝ }
     ensures { λ r. ⌜ (from ≤ r) × (r ≤ length (now (s .entry))) ⌝ }
 {
