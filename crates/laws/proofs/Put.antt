@@ -1,11 +1,11 @@
 -- What a put and an arrival make of a rising list of records. Assumes nothing.
-use Prim.Native.Nat.{ℕ, suc, _≤_}
+use Prim.Native.Nat.{ℕ, zero, suc, _≤_}
 use mathlib.Core.Path.{_≡_, refl, sym, ap, _∙_, subst}
 use mathlib.Core.List.{List, [], _∷_}
 use mathlib.Core.Bool.{Bool, true, false}
 use mathlib.Core.Logic.{_⊎_, inl, inr, ⊎-elim}
 use mathlib.Core.Option.{Option, none, some, Option·none-ne-some, Option·some-injective}
-use lib.ListN.{length}
+use lib.ListN.{length, drop}
 use lib.Dec.{ltb, eqb}
 use Rattle.laws.specs.Lists.{kept}
 use Rattle.laws.specs.Keyed.{In, Rising, stored, put, arrived, against}
@@ -45,6 +45,12 @@ module _ {R K : Type 0} (key : R → K) (less same : K → K → Bool) (o : KeyO
       (λ s. behind s (differs-above less same o (key r) (key x) s l)))
 
   -- what stands in the list after a put is what was put, or stood there before
+  -- what is left of a rising list rises
+  pub rising-drop : (k : ℕ) (rs : List R) → Rising key less same rs → Rising key less same (drop k rs)
+  rising-drop zero rs up = up
+  rising-drop (suc k) [] up = tt
+  rising-drop (suc k) (x ∷ xs) (low, up) = rising-drop k xs up
+
   pub put-within : (r : R) (rs : List R) (z : R) → In z (put key less same r rs) → (z ≡ r) ⊎ In z rs
   put-within r [] z m = m
   put-within r (x ∷ xs) z m =

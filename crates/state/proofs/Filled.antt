@@ -34,12 +34,12 @@ use Rattle.history.specs.Parts.{tells, latestDue, latestValid}
 use Rattle.history.proofs.Parts.{orElse, last-in, last-or, last-same, tells-mentions, saidIn, applied-property, line-property, beginIn, endIn, line-begin, line-end, applied-length, following-in, passing-in}
 use Rattle.state.specs.Written.{stateKind, stateTimes, propertyBytes, stateRecord}
 use Rattle.state.specs.Asking.{slicesOf}
-use Rattle.state.specs.Steps.{nothing, among, wanted, markDue, markValid, originOf, lifeFrom, saidAt, propertyFrom, runOf}
+use Rattle.state.specs.Steps.{nothing, wanted, markDue, placeAndOne, originOf, lifeFrom, saidAt, propertyBy, propertyFrom, runOf}
 use Rattle.state.specs.declared.mention.Mark.{Mark}
 use Rattle.state.specs.declared.anchor.Start.{Start}
 use Rattle.state.proofs.Slices.{view-eight, sound-rising, slice-view, slice-eight}
 use Rattle.state.proofs.Written.{view-bytes}
-use Rattle.state.proofs.Settled.{sliceHere, sliceNo, begin-at, end-at, among-in, wanted-in, wanted-begin, wanted-end, anchorBy, origin-last, passing-last, stateFrom, Begun}
+use Rattle.state.proofs.Settled.{sliceHere, sliceNo, begin-at, end-at, wanted-in, wanted-begin, wanted-end, anchorBy, origin-last, passing-last, stateFrom, Begun}
 
 -- ---- runs of bytes
 run-first : (f : ℕ → List ℕ) (n : ℕ) → runOf f (suc n) ≡ f 0 ++ runOf (λ i. f (suc i)) n
@@ -106,10 +106,11 @@ mention-last n h l o e = sym (e ∙ last-same (tells n) (mentions n) (λ d. tell
 
 -- of those that are valid
 pub over-last : (t : Instant) (o : List ℕ) → countOf o ≤ roomOf (recordSize (strideOf o)) o → Rising sliceKey keyLess sameKey (slicesOf o)
-    → (n : ℕ) → n < 8 → (m : Mark) → m ≡ markValid t (latestValid n t (slicesOf o)) → lastMention n (passing t (slicesOf o)) ≡ sliceNo o (m .from)
-over-last t o roomy up n h m e = mention-last n h (passing t (slicesOf o)) (sliceNo o (m .from)) (passing-last t o roomy up n m e)
+    → (n : ℕ) → n < 8 → (k : ℕ) → k ≡ placeAndOne (latestValid n t (slicesOf o)) → lastMention n (passing t (slicesOf o)) ≡ sliceNo o k
+over-last t o roomy up n h k e = mention-last n h (passing t (slicesOf o)) (sliceNo o k) (passing-last t o roomy up n k e)
 
-module _ (t : Instant) (p : List ℕ) (roomy : countOf p ≤ roomOf (recordSize (strideOf p)) p) (up : Rising sliceKey keyLess sameKey (slicesOf p)) (s : Start) (begun : Begun t p s) where
+module _ (since t : Instant) (p : List ℕ) (roomy : countOf p ≤ roomOf (recordSize (strideOf p)) p) (up : Rising sliceKey keyLess sameKey (slicesOf p)) (s : Start)
+    (begun : Begun since t p s) where
   abbrev a : Slice
   a = sliceHere p (s .place)
 
@@ -119,29 +120,29 @@ module _ (t : Instant) (p : List ℕ) (roomy : countOf p ≤ roomOf (recordSize 
   abbrev u : State
   u = stateFrom t p (s .based) (s .place)
 
-  tells-last : (q : ℕ) (m : Mark) → m ≡ markDue (latestDue q t (slicesOf p)) → sliceNo p (originOf s (tells q a) m) ≡ lastOf (tells q) none (a ∷ ds)
-  tells-last q m e = ap (λ x. sliceNo p (originOf x (tells q a) m)) (begun .is) ∙ origin-last t p roomy up (s .based) (s .place) q m e
+  tells-last : (q : ℕ) (m : Mark) → m ≡ markDue (latestDue q since t (slicesOf p)) → sliceNo p (originOf s (tells q a) m) ≡ lastOf (tells q) none (a ∷ ds)
+  tells-last q m e = ap (λ x. sliceNo p (originOf x (tells q a) m)) (begun .is) ∙ origin-last since t p roomy up (s .based) (s .place) (begun .all) q m e
 
   -- of those that make the permanent state
-  pub under-last : (n : ℕ) → n < 8 → (m : Mark) → m ≡ markDue (latestDue n t (slicesOf p)) → lastMention n (a ∷ ds) ≡ sliceNo p (originOf s (tells n a) m)
+  pub under-last : (n : ℕ) → n < 8 → (m : Mark) → m ≡ markDue (latestDue n since t (slicesOf p)) → lastMention n (a ∷ ds) ≡ sliceNo p (originOf s (tells n a) m)
   under-last n h m e = mention-last n h (a ∷ ds) (sliceNo p (originOf s (tells n a) m)) (tells-last n m e)
 
-  module _ (ms : List Mark) (marks : (q : ℕ) → wanted 0 8 q ≡ true → getD ms q nothing ≡ markDue (latestDue q t (slicesOf p))) where
+  module _ (ms : List Mark) (marks : (q : ℕ) → wanted 0 8 q ≡ true → getD ms q nothing ≡ markDue (latestDue q since t (slicesOf p))) where
     pub life-filled : lifeFrom p s ms ≡ u .life
     life-filled =
         let begin = begin-at p (originOf s (tells 8 a) (getD ms 8 nothing)) ∙ ap beginIn (tells-last 8 (getD ms 8 nothing) (marks 8 (wanted-begin 0 8))) ∙ sym (line-begin a ds) in
         let end = end-at p (originOf s (tells 9 a) (getD ms 9 nothing)) ∙ ap endIn (tells-last 9 (getD ms 9 nothing) (marks 9 (wanted-end 0 8))) ∙ sym (line-end a ds) in
         λ i. record { begin = begin i; end = end i }
 
-    -- with slices on it whose last mention the marks of another table name
-    module _ (o : List ℕ) (os : List Mark) where
+    -- with slices on it whose last mention the places of another table name
+    module _ (o os : List ℕ) where
       abbrev written : List ℕ
       written = stateKind ++ (stateTimes t (lifeFrom p s ms) ++ (replicate 8 0 ++ runOf (propertyFrom p o s ms os) 8))
 
-      overlaid-filled : (l : List Slice) (n : ℕ) → n < 8 → lastMention n l ≡ sliceNo o (getD os n nothing .from)
+      overlaid-filled : (l : List Slice) (n : ℕ) → n < 8 → lastMention n l ≡ sliceNo o (getD os n 0)
           → propertyFrom p o s ms os n ≡ propertyBytes (strideOf p) (getD (appliedAll u l .properties) n unmentioned)
-      unfolding propertyFrom lastMention
-      overlaid-filled l n h e = go (getD os n nothing .from) e ∙ ap (propertyBytes (strideOf p)) (sym said)
+      unfolding propertyBy lastMention
+      overlaid-filled l n h e = go (getD os n 0) e ∙ ap (propertyBytes (strideOf p)) (sym said)
         where
           k : ℕ
           k = originOf s (tells n a) (getD ms n nothing)
@@ -149,7 +150,7 @@ module _ (t : Instant) (p : List ℕ) (roomy : countOf p ≤ roomOf (recordSize 
           under : lastMention n (a ∷ ds) ≡ sliceNo p k
           under = under-last n h (getD ms n nothing) (marks n (wanted-in 0 8 n (omega arith) (omega arith)))
 
-          said : getD (appliedAll u l .properties) n unmentioned ≡ saidIn n (orElse (sliceNo o (getD os n nothing .from)) (sliceNo p k))
+          said : getD (appliedAll u l .properties) n unmentioned ≡ saidIn n (orElse (sliceNo o (getD os n 0)) (sliceNo p k))
           said =
               applied-property n l u (sliceNo p k) (line-property n a ds ∙ ap (saidIn n) under)
               ∙ ap (saidIn n) (last-or (mentions n) (sliceNo p k) l) ∙ ap (λ x. saidIn n (orElse x (sliceNo p k))) e
@@ -160,15 +161,15 @@ module _ (t : Instant) (p : List ℕ) (roomy : countOf p ≤ roomOf (recordSize 
           go (suc i) e = let z : eqb (suc i) 0 ≡ false = omega tests in rw z (said-bytes o n (suc i) h l e)
 
       pub property-filled : countOf o ≤ roomOf (recordSize (strideOf o)) o → Rising sliceKey keyLess sameKey (slicesOf o)
-          → ((q : ℕ) → among 0 8 q ≡ true → getD os q nothing ≡ markValid t (latestValid q t (slicesOf o))) → (n : ℕ) → n < 8
+          → ((q : ℕ) → q < 8 → getD os q 0 ≡ placeAndOne (latestValid q t (slicesOf o))) → (n : ℕ) → n < 8
           → propertyFrom p o s ms os n ≡ propertyBytes (strideOf p) (getD (appliedAll u (passing t (slicesOf o)) .properties) n unmentioned)
-      property-filled roomy' up' marks' n h =
-          overlaid-filled (passing t (slicesOf o)) n h (over-last t o roomy' up' n h (getD os n nothing) (marks' n (among-in 0 8 n (omega arith) h)))
+      property-filled roomy' up' places n h =
+          overlaid-filled (passing t (slicesOf o)) n h (over-last t o roomy' up' n h (getD os n 0) (places n h))
 
-      pub property-alone : ((q : ℕ) → getD os q nothing ≡ nothing) → (n : ℕ) → n < 8
+      pub property-alone : ((q : ℕ) → q < 8 → getD os q 0 ≡ 0) → (n : ℕ) → n < 8
           → propertyFrom p o s ms os n ≡ propertyBytes (strideOf p) (getD (u .properties) n unmentioned)
       unfolding lastMention
-      property-alone none' n h = overlaid-filled [] n h (sym (ap (λ m. sliceNo o (m .from)) (none' n)))
+      property-alone none' n h = overlaid-filled [] n h (sym (ap (sliceNo o) (none' n h)))
 
       -- the whole record
       record-filled : (l : List Slice) → appliedAll u l .life ≡ u .life → ((d : Slice) → In d l → length (d .properties) ≡ 8)
@@ -182,12 +183,12 @@ module _ (t : Instant) (p : List ℕ) (roomy : countOf p ≤ roomOf (recordSize 
           let run = run-joined (propertyFrom p o s ms os) (appliedAll u l .properties) (strideOf p) 8 long h in
           λ i. stateKind ++ (stateTimes t (e i) ++ (replicate 8 0 ++ run i))
 
-      pub snapshot-filled : checkTable Temporary o ≡ Sound → ((q : ℕ) → among 0 8 q ≡ true → getD os q nothing ≡ markValid t (latestValid q t (slicesOf o)))
+      pub snapshot-filled : checkTable Temporary o ≡ Sound → ((q : ℕ) → q < 8 → getD os q 0 ≡ placeAndOne (latestValid q t (slicesOf o)))
           → written ≡ stateRecord (strideOf p) t (appliedAll u (passing t (slicesOf o)))
-      snapshot-filled sound marks' =
+      snapshot-filled sound places =
           record-filled (passing t (slicesOf o)) (life-kept (passing t (slicesOf o)) (passing-lifeless o sound t) u)
           (λ d m. slice-eight o d (passing-in t (slicesOf o) d m .0))
-          (property-filled (sound-table Temporary o sound .roomy) (sound-rising o Temporary sound) marks')
+          (property-filled (sound-table Temporary o sound .roomy) (sound-rising o Temporary sound) places)
 
-      pub state-filled : ((q : ℕ) → getD os q nothing ≡ nothing) → written ≡ stateRecord (strideOf p) t u
+      pub state-filled : ((q : ℕ) → q < 8 → getD os q 0 ≡ 0) → written ≡ stateRecord (strideOf p) t u
       state-filled none' = record-filled [] refl (λ d m. absurd m) (property-alone none')

@@ -4,6 +4,7 @@ pub mod Written
 pub mod Views
 pub mod Walks
 pub mod Marks
+pub mod Front
 pub mod Anchors
 pub mod Settled
 pub mod Filled

@@ -1,19 +1,22 @@
 -- The marks of the latest mention, step by step, and that a pass keeps for each part the mark of its latest mention. Assumes nothing.
-use Prim.Native.Nat.{ℕ, suc, _+_, _≤_, _<_}
+use Prim.Native.Nat.{ℕ, zero, suc, _+_, _≤_, _<_}
 use mathlib.Core.Path.{_≡_, refl, sym, ap, _∙_}
-use mathlib.Core.Bool.{Bool, true, false, not, _&&_, _||_}
+use mathlib.Core.Bool.{Bool, true, false, cond, not, _&&_, _||_}
 use mathlib.Core.List.{List, [], _∷_}
+use mathlib.Core.Logic.{inl, inr, ⊎-elim}
 use mathlib.Core.Option.{Option, none, some}
 use native.Mathlib.Omega.{arith}
-use lib.ListN.{length, getD, set}
+use lib.ListN.{length, getD, drop, set}
 use lib.Dec.{eqb, ltb, leb}
 use lib.Seq.{getD-set-same, getD-set-other}
 use Rattle.laws.specs.Orders.{lexLess}
-use Rattle.laws.proofs.Tests.{tests, by-test, and-both, and-false}
+use Rattle.laws.specs.Keyed.{In}
+use Rattle.laws.proofs.Tests.{tests, by-test, contrary, and-both, and-false, or-either}
 use Rattle.numbers.specs.declared.Instant.{Instant}
 use Rattle.slice.specs.Record.{Slice}
-use Rattle.history.specs.Parts.{tells, Placed, at, laterThan, latestWith, latestFrom}
-use Rattle.state.specs.Steps.{nothing, laterOf, among, wanted, noted, markAt, markBy, oneMore, tallyFrom, afterStart, originOf}
+use Rattle.history.specs.Permanent.{turnLess}
+use Rattle.history.specs.Parts.{tells, Placed, passFrom, laterTurn, latestWith}
+use Rattle.state.specs.Steps.{laterOf, among, wanted, markOf, markDue, placeAndOne, oneMore, tallyWith, afterStart, originOf}
 use Rattle.state.specs.declared.anchor.Few.{Few}
 use Rattle.state.specs.declared.anchor.Start.{Start}
 use Rattle.state.specs.declared.mention.Mark.{Mark}
@@ -59,37 +62,39 @@ module _ (from to : ℕ) where
   unfolding among
   among-none q h = by-test (leb from q) (λ y. by-test (ltb q to) (λ z. absurd (omega tests)) (λ z. rw (y, z))) (λ y. rw y)
 
--- the marks with those of the parts from `from` up to `part` noted, the one at `part` noted too
-module _ (from : ℕ) (told : ℕ → Bool) (n : Mark) (ms₀ ms : List Mark) where
-  abbrev pub Noted : ℕ → Type 0
-  Noted part = (q : ℕ) → getD ms q nothing ≡ noted (among from part q) (told q) n (getD ms₀ q nothing)
+-- what is kept of each part, with that of the parts from `from` up to `part` gone one step on
+module _ {A : Type 0} (none′ : A) (from : ℕ) (step : ℕ → A → A) where
+  abbrev pub Noted : List A → List A → ℕ → Type 0
+  Noted xs₀ xs part = (q : ℕ) → getD xs q none′ ≡ cond (among from part q) (step q (getD xs₀ q none′)) (getD xs₀ q none′)
 
-pub noted-start : (from : ℕ) (told : ℕ → Bool) (n : Mark) (ms : List Mark) → Noted from told n ms ms from
-unfolding noted
-noted-start from told n ms q = rw (among-none from from q (omega arith))
+  pub noted-start : (xs : List A) → Noted xs xs from
+  noted-start xs q = rw (among-none from from q (omega arith))
 
-pub noted-turn : (from : ℕ) (told : ℕ → Bool) (n : Mark) (ms₀ ms : List Mark) (part : ℕ) (m : Mark) → from ≤ part → part < length ms
-    → Noted from told n ms₀ ms part → m ≡ laterOf (told part) n (getD ms part nothing) → Noted from told n ms₀ (set ms part m) (part + 1)
-unfolding noted among
-noted-turn from told n ms₀ ms part m h k before e q =
-    by-test (eqb q part)
-    (λ y. let w : q ≡ part = omega tests in
-    let old : ltb part part ≡ false = omega tests in
-    let a : leb from part ≡ true = omega tests in
-    let b : ltb part (part + 1) ≡ true = omega tests in
-    let kept : getD ms part nothing ≡ getD ms₀ part nothing = rw (a, old) at (before part) in
-    rw (w, a, b, getD-set-same ms part m nothing k) (e ∙ ap (laterOf (told part) n) kept))
-    (λ y. let w : (q ≡ part → ⊥) = λ z. omega tests in
-    getD-set-other ms part q m nothing w ∙ (before q ∙ same q (λ z. omega tests)))
-  where
-    same : (q : ℕ) → (q ≡ part → ⊥) → noted (leb from q && ltb q part) (told q) n (getD ms₀ q nothing) ≡ noted (leb from q && ltb q (part + 1)) (told q) n (getD ms₀ q nothing)
-    same q w = by-test (ltb q part)
-        (λ y. let z : ltb q (part + 1) ≡ true = omega tests in rw (y, z))
-        (λ y. let z : ltb q (part + 1) ≡ false = omega tests in rw (y, z))
+  pub noted-turn : (xs₀ xs : List A) (part : ℕ) (x : A) → from ≤ part → part < length xs → Noted xs₀ xs part → x ≡ step part (getD xs part none′)
+      → Noted xs₀ (set xs part x) (part + 1)
+  unfolding among
+  noted-turn xs₀ xs part x h k before e q =
+      by-test (eqb q part)
+      (λ y. let w : q ≡ part = omega tests in
+      let old : ltb part part ≡ false = omega tests in
+      let a : leb from part ≡ true = omega tests in
+      let b : ltb part (part + 1) ≡ true = omega tests in
+      let kept : getD xs part none′ ≡ getD xs₀ part none′ = rw (a, old) at (before part) in
+      rw (w, a, b, getD-set-same xs part x none′ k) (e ∙ ap (step part) kept))
+      (λ y. let w : (q ≡ part → ⊥) = λ z. omega tests in
+      getD-set-other xs part q x none′ w ∙ (before q ∙ same q (λ z. omega tests)))
+    where
+      same : (q : ℕ) → (q ≡ part → ⊥)
+          → cond (leb from q && ltb q part) (step q (getD xs₀ q none′)) (getD xs₀ q none′) ≡ cond (leb from q && ltb q (part + 1)) (step q (getD xs₀ q none′)) (getD xs₀ q none′)
+      same q w = by-test (ltb q part)
+          (λ y. let z : ltb q (part + 1) ≡ true = omega tests in rw (y, z))
+          (λ y. let z : ltb q (part + 1) ≡ false = omega tests in rw (y, z))
 
-pub noted-yes : (w b : Bool) (n m : Mark) → w ≡ true → noted w b n m ≡ laterOf b n m
-unfolding noted
-noted-yes w b n m e = rw e
+  -- past the last part each of them has gone its step
+  pub noted-end : (xs₀ xs : List A) (part to q : ℕ) → part ≤ to → to ≤ part → among from to q ≡ true → Noted xs₀ xs part → getD xs q none′ ≡ step q (getD xs₀ q none′)
+  noted-end xs₀ xs part to q h k y noted =
+      let e : part ≡ to = omega arith in
+      noted q ∙ rw (e, y)
 
 -- a life time is none of them
 beyond : (from to q : ℕ) → to ≤ 8 → among 8 10 q ≡ true → among from to q ≡ false
@@ -100,73 +105,80 @@ beyond from to q h y =
     rw (z, and-false)
 
 -- the properties from one up to another, and then the life times
-pub noted-wanted : (from to : ℕ) (told : ℕ → Bool) (n : Mark) (ms₀ ms₁ ms : List Mark) → to ≤ 8 → Noted from told n ms₀ ms₁ to → Noted 8 told n ms₁ ms 10
-    → (q : ℕ) → getD ms q nothing ≡ noted (wanted from to q) (told q) n (getD ms₀ q nothing)
-unfolding noted wanted
-noted-wanted from to told n ms₀ ms₁ ms h one two q =
+pub noted-wanted : {A : Type 0} (none′ : A) (from to : ℕ) (step : ℕ → A → A) (xs₀ xs₁ xs : List A) → to ≤ 8 → Noted none′ from step xs₀ xs₁ to
+    → Noted none′ 8 step xs₁ xs 10 → (q : ℕ) → wanted from to q ≡ true → getD xs q none′ ≡ step q (getD xs₀ q none′)
+unfolding wanted
+noted-wanted none′ from to step xs₀ xs₁ xs h one two q w =
     by-test (among 8 10 q)
-    (λ y. let z = apart y in rw (z, y) (rw y at (two q) ∙ ap (laterOf (told q) n) (rw z at (one q))))
-    (λ y. rw (y, or-false (among from to q)) (rw y at (two q) ∙ one q))
-  where
-    or-false : (b : Bool) → (b || false) ≡ b
-    or-false true = refl
-    or-false false = refl
+    (λ y. let z = beyond from to q h y in rw y at (two q) ∙ ap (step q) (rw z at (one q)))
+    (λ y. let z : among from to q ≡ true = ⊎-elim (λ z. z) (λ z. contrary z y) (or-either (among from to q) (among 8 10 q) w) in
+    rw y at (two q) ∙ (rw z at (one q)))
 
-    apart : among 8 10 q ≡ true → among from to q ≡ false
-    apart y = beyond from to q h y
+-- ---- a pass
+module _ {S : Type 0} (step : S → ℕ → Slice → S) where
+  -- slices in front that change nothing
+  front-from : (k i : ℕ) (s : S) (ds : List Slice) → k ≤ length ds → ((j : ℕ) (d : Slice) → j < k → (n : ℕ) → step s n (getD ds j d) ≡ s)
+      → passFrom step s i ds ≡ passFrom step s (i + k) (drop k ds)
+  front-from zero i s ds h same = let e : i ≡ i + 0 = omega arith in ap (λ (n : ℕ). passFrom step s n ds) e
+  front-from (suc k) i s [] h same = absurd (omega arith)
+  front-from (suc k) i s (d ∷ ds) h same =
+      let e : suc i + k ≡ i + suc k = omega arith in
+      ap (λ v. passFrom step v (suc i) ds) (same 0 d (omega arith) i) ∙ front-from k (suc i) s ds (omega arith) (λ j x l. same (suc j) x (omega arith))
+      ∙ ap (λ (n : ℕ). passFrom step s n (drop k ds)) e
 
--- ---- one slice more: what the marks make of it is the mark of what the pass makes of it
-module _ (when : Slice → Instant) (f : Slice → Bool) (q i : ℕ) (d : Slice) where
+  pub pass-front : (k : ℕ) (s : S) (ds : List Slice) → k ≤ length ds → ((j : ℕ) (d : Slice) → j < k → (n : ℕ) → step s n (getD ds j d) ≡ s)
+      → passFrom step s 0 ds ≡ passFrom step s k (drop k ds)
+  pass-front k s ds h same = let e : 0 + k ≡ k = omega arith in front-from k 0 s ds h same ∙ ap (λ (n : ℕ). passFrom step s n (drop k ds)) e
+
+  -- slices that change nothing
+  pub pass-none : (i : ℕ) (s : S) (ds : List Slice) → ((d : Slice) → In d ds → (n : ℕ) → step s n d ≡ s) → passFrom step s i ds ≡ s
+  pass-none i s [] same = refl
+  pass-none i s (d ∷ ds) same = ap (λ v. passFrom step v (suc i) ds) (same d (inl refl) i) ∙ pass-none (suc i) s ds (λ x m. same x (inr m))
+
+  -- what is kept stands for what a pass has found so far, and the rest of the pass gives what the whole gives
+  module _ {A : Type 0} (keep : S → A) where
+    abbrev pub Keeps : A → S → ℕ → List Slice → Type 0
+    Keeps x all i rest = (s : S) × (x ≡ keep s) × (all ≡ passFrom step s i rest)
+
+    pub keeps-turn : (x y : A) (all : S) (i : ℕ) (d : Slice) (rest rest′ : List Slice) → rest ≡ d ∷ rest′ → (turn : A → A)
+        → ((s : S) → turn (keep s) ≡ keep (step s i d)) → y ≡ turn x → Keeps x all i rest → Keeps y all (i + 1) rest′
+    keeps-turn x y all i d rest rest′ next turn goes e (s, p, a) =
+        let n : suc i ≡ i + 1 = omega arith in
+        (step s i d, e ∙ (ap turn p ∙ goes s), a ∙ (ap (passFrom step s i) next ∙ ap (λ (n : ℕ). passFrom step (step s i d) n rest′) n))
+
+    pub keeps-past : (x y : A) (all : S) (i : ℕ) (d : Slice) (rest rest′ : List Slice) → rest ≡ d ∷ rest′ → ((s : S) → step s i d ≡ s) → y ≡ x
+        → Keeps x all i rest → Keeps y all (i + 1) rest′
+    keeps-past x y all i d rest rest′ next same = keeps-turn x y all i d rest rest′ next (λ z. z) (λ s. ap keep (sym (same s)))
+
+    pub keeps-rest : (x : A) (all : S) (i : ℕ) (rest : List Slice) → ((d : Slice) → In d rest → (s : S) (n : ℕ) → step s n d ≡ s) → Keeps x all i rest → x ≡ keep all
+    keeps-rest x all i rest same (s, p, a) = p ∙ ap keep (sym (a ∙ pass-none i s rest (λ d m. same d m s)))
+
+    pub keeps-end : (x : A) (all : S) (i : ℕ) (rest : List Slice) → rest ≡ [] → Keeps x all i rest → x ≡ keep all
+    keeps-end x all i rest e (s, p, a) = p ∙ ap keep (sym (a ∙ ap (passFrom step s i) e))
+
+-- ---- one slice more: what is kept of it is what is kept of what the pass makes of it
+module _ (f : Slice → Bool) (q i : ℕ) (d : Slice) (e : f d ≡ true) where
   abbrev passed : Slice → Bool
   passed s = f s && tells q s
 
-  pub mark-yes : f d ≡ true → (o : Option Placed) → laterOf (tells q d) (markAt (when d) i d) (markBy when o) ≡ markBy when (latestWith when passed o (at i d))
-  unfolding laterOf laterThan
-  mark-yes e none = rw e (by-test (tells q d) (λ y. rw y) (λ y. rw y))
-  mark-yes e (some b) =
+  pub mark-turn : (o : Option Placed) → laterOf (tells q d) (markOf i d) (markDue o) ≡ markDue (latestWith laterTurn passed o i d)
+  unfolding laterOf turnLess
+  mark-turn none = rw e (by-test (tells q d) (λ y. rw y) (λ y. rw y))
+  mark-turn (some b) =
       let z : eqb (b .place + 1) 0 ≡ false = omega tests in
-      rw (e, z) (by-test (tells q d) (λ y. rw y (by-test (lexLess (when (b .slice) .0) (b .slice .sequence .0) (when d .0) (d .sequence .0)) (λ z. rw z) (λ z. rw z))) (λ y. rw y))
+      rw (e, z) (by-test (tells q d) (λ y. rw y (by-test (lexLess (b .slice .period .begin .0) (b .slice .sequence .0) (d .period .begin .0) (d .sequence .0)) (λ z. rw z) (λ z. rw z))) (λ y. rw y))
 
-  pub mark-no : f d ≡ false → (o : Option Placed) → latestWith when passed o (at i d) ≡ o
-  mark-no e none = rw e
-  mark-no e (some b) = rw e
+  pub place-turn : (o : Option Placed) → cond (tells q d) (i + 1) (placeAndOne o) ≡ placeAndOne (latestWith (λ a b. true) passed o i d)
+  place-turn none = rw e (by-test (tells q d) (λ y. rw y) (λ y. rw y))
+  place-turn (some b) = rw e (by-test (tells q d) (λ y. rw y) (λ y. rw y))
 
--- ---- the pass
--- the mark of a part stands for what a pass has found so far, and the rest of the pass gives what the whole gives
-module _ (when : Slice → Instant) (f : Slice → Bool) (q : ℕ) where
-  abbrev found : Option Placed → ℕ → List Slice → Option Placed
-  found o i ds = latestFrom when (λ d. f d && tells q d) o i ds
+-- one that does not pass changes nothing
+pub latest-past : (later : Slice → Slice → Bool) (test : Slice → Bool) (i : ℕ) (d : Slice) → test d ≡ false → (o : Option Placed) → latestWith later test o i d ≡ o
+latest-past later test i d n none = rw n
+latest-past later test i d n (some b) = rw n
 
-  abbrev pub Keeps : Mark → Option Placed → ℕ → List Slice → Type 0
-  Keeps m all i rest = (o : Option Placed) × (m ≡ markBy when o) × (all ≡ found o i rest)
+pub tally-past : (test : Slice → Bool) (i : ℕ) (d : Slice) → test d ≡ false → (few : Few) → tallyWith test few i d ≡ few
+tally-past test i d n few = rw n
 
-  pub keeps-start : (m : Mark) (slices : List Slice) → m ≡ nothing → Keeps m (found none 0 slices) 0 slices
-  keeps-start m slices e = (none, e, refl)
-
-  module _ (m m′ : Mark) (all : Option Placed) (i : ℕ) (d : Slice) (rest rest′ : List Slice) (next : rest ≡ d ∷ rest′) where
-    pub keeps-yes : f d ≡ true → m′ ≡ laterOf (tells q d) (markAt (when d) i d) m → Keeps m all i rest → Keeps m′ all (i + 1) rest′
-    keeps-yes y e (o, p, a) =
-        let s : suc i ≡ i + 1 = omega arith in (
-          latestWith when (λ s. f s && tells q s) o (at i d),
-          e ∙ (ap (laterOf (tells q d) (markAt (when d) i d)) p ∙ mark-yes when f q i d y o),
-          a ∙ (ap (found o i) next ∙ ap (λ (n : ℕ). found (latestWith when (λ s. f s && tells q s) o (at i d)) n rest′) s),
-        )
-
-    pub keeps-no : f d ≡ false → m′ ≡ m → Keeps m all i rest → Keeps m′ all (i + 1) rest′
-    keeps-no y e (o, p, a) =
-        let s : suc i ≡ i + 1 = omega arith in
-        (o, e ∙ p, a ∙ (ap (found o i) next ∙ (ap (λ o. found o (suc i) rest′) (mark-no when f q i d y o) ∙ ap (λ (n : ℕ). found o n rest′) s)))
-
-  pub keeps-end : (m : Mark) (all : Option Placed) (i : ℕ) (rest : List Slice) → rest ≡ [] → Keeps m all i rest → m ≡ markBy when all
-  keeps-end m all i rest e (o, p, a) = p ∙ ap (markBy when) (sym (a ∙ ap (found o i) e))
-
--- ---- none, one or more
-module _ (test : Slice → Bool) (i : ℕ) (few : Few) (d : Slice) (rest rest′ : List Slice) (next : rest ≡ d ∷ rest′) where
-  pub tally-yes : test d ≡ true → tallyFrom test i few rest ≡ tallyFrom test (i + 1) (oneMore i few) rest′
-  tally-yes y = let s : suc i ≡ i + 1 = omega arith in rw (next, y, s)
-
-  pub tally-no : test d ≡ false → tallyFrom test i few rest ≡ tallyFrom test (i + 1) few rest′
-  tally-no y = let s : suc i ≡ i + 1 = omega arith in rw (next, y, s)
-
-pub tally-end : (test : Slice → Bool) (i : ℕ) (few : Few) (rest : List Slice) → rest ≡ [] → tallyFrom test i few rest ≡ few
-tally-end test i few rest e = rw e
+pub tally-turn : (test : Slice → Bool) (i : ℕ) (d : Slice) → test d ≡ true → (few : Few) → oneMore i few ≡ tallyWith test few i d
+tally-turn test i d y few = rw y

@@ -97,13 +97,9 @@ pasted-none d at h =
     let z : at + 0 ≡ at = omega arith in
     sym (pasted-whole d [] at (omega arith) ∙ (ap (λ (n : ℕ). take at d ++ drop n d) z ∙ take-append-drop at d))
 
--- property n by the marks of its place
-pub property-by : (p t : List ℕ) (s : Start) (ms os : List Mark) (n : ℕ) → propertyBy p t s (getD ms n nothing) (getD os n nothing) n ≡ propertyFrom p t s ms os n
-unfolding propertyBy propertyFrom
-property-by p t s ms os n = refl
-
 pub from-length : (p t : List ℕ) → countOf p ≤ roomOf (recordSize (strideOf p)) p → countOf t ≤ roomOf (recordSize (strideOf t)) t
-    → (s : Start) (ms os : List Mark) → s .place < countOf p → Known (countOf p) ms → Known (countOf t) os → (n : ℕ) → n < 8 → length (propertyFrom p t s ms os n) ≡ strideOf p
-unfolding propertyFrom
+    → (s : Start) (ms : List Mark) (os : List ℕ) → s .place < countOf p → Known (countOf p) (λ q. getD ms q nothing .from) → Known (countOf t) (λ q. getD os q 0)
+    → (n : ℕ) → n < 8 → length (propertyFrom p t s ms os n) ≡ strideOf p
+unfolding propertyBy
 from-length p t room room′ s ms os h km ko n k =
-    pick-ind {X = List ℕ} (λ l. length l ≡ strideOf p) (eqb (getD os n nothing .from) 0) (λ _. said-length p room n k _ (origin-known (countOf p) s _ _ h (km n k))) (λ _. said-length t room′ n k _ (ko n k))
+    pick-ind {X = List ℕ} (λ l. length l ≡ strideOf p) (eqb (getD os n 0) 0) (λ _. said-length p room n k _ (origin-known (countOf p) s _ _ h (km n k))) (λ _. said-length t room′ n k _ (ko n k))

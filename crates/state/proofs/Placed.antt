@@ -40,7 +40,7 @@ use Rattle.history.proofs.Parts.{last-in, passing-in}
 use Rattle.history.proofs.Line.{line-in}
 use Rattle.state.specs.Written.{propertyBytes}
 use Rattle.state.specs.Asking.{slicesOf, permanentTests, bothTests, askingTests, refusedPlace, placeIn, placed, placeAt, placeOf}
-use Rattle.state.specs.Steps.{markDue, markValid, originOf, placedBy}
+use Rattle.state.specs.Steps.{markDue, placeAndOne, originOf, placedBy}
 use Rattle.state.specs.declared.mention.Mark.{Mark}
 use Rattle.state.specs.declared.anchor.Start.{Start}
 use Rattle.state.specs.declared.question.Place.{Place}
@@ -107,64 +107,64 @@ module _ (t : List ℕ) (n : ℕ) (l : List Slice) (k : ℕ) (e : lastMention n 
   one-told h i z = (e ∙ ap (sliceNo t) (z ∙ add-one i), omega arith)
 
 -- the slices that make a state that has begun
-begun-line : (t : Instant) (p : List ℕ) (s : Start) → Begun t p s
+begun-line : (since t : Instant) (p : List ℕ) (s : Start) → Begun since t p s
     → line t (slicesOf p) ≡ sliceHere p (s .place) ∷ following t (slicesOf p) (anchorBy (s .based) (sliceHere p (s .place)))
 unfolding line
-begun-line t p s begun = ap (lineFrom t (slicesOf p)) (begun .anchored) ∙ go (s .based)
+begun-line since t p s begun = ap (lineFrom t (slicesOf p)) (begun .anchored) ∙ go (s .based)
   where
     go : (b : Bool) → lineFrom t (slicesOf p) (anchorBy b (sliceHere p (s .place))) ≡ sliceHere p (s .place) ∷ following t (slicesOf p) (anchorBy b (sliceHere p (s .place)))
     go true = refl
     go false = refl
 
 module _ (t : Instant) (o : List ℕ) (roomy : countOf o ≤ roomOf (recordSize (strideOf o)) o) (up : Rising sliceKey keyLess sameKey (slicesOf o)) (n : ℕ) (h : n < 8)
-    (m : Mark) (is : m ≡ markValid t (latestValid n t (slicesOf o))) where
-  pub over-none : m .from ≡ 0 → lastMention n (passing t (slicesOf o)) ≡ none
-  over-none = none-told o n (passing t (slicesOf o)) (m .from) (over-last t o roomy up n h m is)
+    (k : ℕ) (is : k ≡ placeAndOne (latestValid n t (slicesOf o))) where
+  pub over-none : k ≡ 0 → lastMention n (passing t (slicesOf o)) ≡ none
+  over-none = none-told o n (passing t (slicesOf o)) k (over-last t o roomy up n h k is)
 
-  pub over-one : (i : ℕ) → m .from ≡ i + 1 → (lastMention n (passing t (slicesOf o)) ≡ some (sliceHere o i)) × (i < countOf o)
-  over-one = one-told o n (passing t (slicesOf o)) (m .from) (over-last t o roomy up n h m is) (known-valid t o roomy n m is)
+  pub over-one : (i : ℕ) → k ≡ i + 1 → (lastMention n (passing t (slicesOf o)) ≡ some (sliceHere o i)) × (i < countOf o)
+  over-one = one-told o n (passing t (slicesOf o)) k (over-last t o roomy up n h k is) (known-valid t o roomy n k is)
 
-module _ (t : Instant) (p : List ℕ) (roomy : countOf p ≤ roomOf (recordSize (strideOf p)) p) (up : Rising sliceKey keyLess sameKey (slicesOf p)) (s : Start) (begun : Begun t p s) (n : ℕ) (h : n < 8)
-    (m : Mark) (is : m ≡ markDue (latestDue n t (slicesOf p))) where
+module _ (since t : Instant) (p : List ℕ) (roomy : countOf p ≤ roomOf (recordSize (strideOf p)) p) (up : Rising sliceKey keyLess sameKey (slicesOf p)) (s : Start) (begun : Begun since t p s) (n : ℕ) (h : n < 8)
+    (m : Mark) (is : m ≡ markDue (latestDue n since t (slicesOf p))) where
   abbrev k : ℕ
   k = originOf s (tells n (sliceHere p (s .place))) m
 
   line-last : lastMention n (line t (slicesOf p)) ≡ sliceNo p k
-  line-last = ap (lastMention n) (begun-line t p s begun) ∙ under-last t p roomy up s begun n h m is
+  line-last = ap (lastMention n) (begun-line since t p s begun) ∙ under-last since t p roomy up s begun n h m is
 
   pub under-none : k ≡ 0 → lastMention n (line t (slicesOf p)) ≡ none
   under-none = none-told p n (line t (slicesOf p)) k line-last
 
   pub under-one : (i : ℕ) → k ≡ i + 1 → (lastMention n (line t (slicesOf p)) ≡ some (sliceHere p i)) × (i < countOf p)
-  under-one = one-told p n (line t (slicesOf p)) k line-last (origin-most t p roomy s (tells n (sliceHere p (s .place))) n m (begun .place) is)
+  under-one = one-told p n (line t (slicesOf p)) k line-last (origin-most since t p roomy s (tells n (sliceHere p (s .place))) n m (begun .place) is)
 
-module _ (t : Instant) (p o : List ℕ) (roomy : countOf p ≤ roomOf (recordSize (strideOf p)) p) (up : Rising sliceKey keyLess sameKey (slicesOf p))
-    (roomy' : countOf o ≤ roomOf (recordSize (strideOf o)) o) (up' : Rising sliceKey keyLess sameKey (slicesOf o)) (s : Start) (begun : Begun t p s) (n : ℕ) (h : n < 8)
-    (under : Mark) (is : under ≡ markDue (latestDue n t (slicesOf p))) (over : Mark) (is' : over ≡ markValid t (latestValid n t (slicesOf o))) where
+module _ (since t : Instant) (p o : List ℕ) (roomy : countOf p ≤ roomOf (recordSize (strideOf p)) p) (up : Rising sliceKey keyLess sameKey (slicesOf p))
+    (roomy' : countOf o ≤ roomOf (recordSize (strideOf o)) o) (up' : Rising sliceKey keyLess sameKey (slicesOf o)) (s : Start) (begun : Begun since t p s) (n : ℕ) (h : n < 8)
+    (under : Mark) (is : under ≡ markDue (latestDue n since t (slicesOf p))) (over : ℕ) (is' : over ≡ placeAndOne (latestValid n t (slicesOf o))) where
   abbrev from : ℕ
   from = originOf s (tells n (sliceHere p (s .place))) under
 
   at-known : placeAt p o t n (permanentAt t (slicesOf p)) ≡ placed p o n (lastMention n (passing t (slicesOf o))) (lastMention n (line t (slicesOf p)))
   at-known = ap (placeAt p o t n) (begun .state)
 
-  pub placed-temporary : 0 < over .from → placeAt p o t n (permanentAt t (slicesOf p)) ≡ place.Temporary (propertyPlace o n (over .from - 1))
+  pub placed-temporary : 0 < over → placeAt p o t n (permanentAt t (slicesOf p)) ≡ place.Temporary (propertyPlace o n (over - 1))
   placed-temporary y =
-      let (e, low) = over-one t o roomy' up' n h over is' (over .from - 1) (omega arith) in
-      at-known ∙ ap (λ d. placed p o n d (lastMention n (line t (slicesOf p)))) e ∙ ap place.Temporary (place-here o roomy' up' n (over .from - 1) low)
+      let (e, low) = over-one t o roomy' up' n h over is' (over - 1) (omega arith) in
+      at-known ∙ ap (λ d. placed p o n d (lastMention n (line t (slicesOf p)))) e ∙ ap place.Temporary (place-here o roomy' up' n (over - 1) low)
 
-  pub placed-permanent : over .from ≡ 0 → 0 < from → placeAt p o t n (permanentAt t (slicesOf p)) ≡ place.Permanent (propertyPlace p n (from - 1))
+  pub placed-permanent : over ≡ 0 → 0 < from → placeAt p o t n (permanentAt t (slicesOf p)) ≡ place.Permanent (propertyPlace p n (from - 1))
   placed-permanent z y =
-      let (e, low) = under-one t p roomy up s begun n h under is (from - 1) (omega arith) in
+      let (e, low) = under-one since t p roomy up s begun n h under is (from - 1) (omega arith) in
       at-known ∙ (λ i. placed p o n (over-none t o roomy' up' n h over is' z i) (e i)) ∙ ap place.Permanent (place-here p roomy up n (from - 1) low)
 
-  pub placed-nowhere : over .from ≡ 0 → from ≡ 0 → placeAt p o t n (permanentAt t (slicesOf p)) ≡ place.Unmentioned
-  placed-nowhere z y = at-known ∙ (λ i. placed p o n (over-none t o roomy' up' n h over is' z i) (under-none t p roomy up s begun n h under is y i))
+  pub placed-nowhere : over ≡ 0 → from ≡ 0 → placeAt p o t n (permanentAt t (slicesOf p)) ≡ place.Unmentioned
+  placed-nowhere z y = at-known ∙ (λ i. placed p o n (over-none t o roomy' up' n h over is' z i) (under-none since t p roomy up s begun n h under is y i))
 
   -- what the code works out from the two marks
   pub placed-is : placedBy p o s under over n ≡ placeAt p o t n (permanentAt t (slicesOf p))
   unfolding placedBy
   placed-is =
-      by-test (eqb (over .from) 0)
+      by-test (eqb over 0)
       (λ y. rw y (by-test (eqb from 0) (λ z. rw z (sym (placed-nowhere (omega tests) (omega tests)))) (λ z. rw z (sym (placed-permanent (omega tests) (omega tests))))))
       (λ y. rw y (sym (placed-temporary (omega tests))))
 

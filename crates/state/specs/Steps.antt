@@ -10,10 +10,10 @@ use Rattle.numbers.specs.Numbers as numbers
 use Rattle.numbers.specs.Numbers.{given, before, atMost}
 use Rattle.numbers.specs.declared.Instant.{Instant}
 use Rattle.slice.specs.declared.record.Life.{Life}
-use Rattle.slice.specs.Record.{baseline, recordSize, periodOf, lifeOf, sequenceOf, Slice, viewOf}
+use Rattle.slice.specs.Record.{recordSize, periodOf, lifeOf, sequenceOf, Slice, viewOf}
 use Rattle.table.specs.Header.{strideOf, recordAt}
 use Rattle.history.specs.Counted.{counts, holds}
-use Rattle.history.specs.Parts.{tells, Placed}
+use Rattle.history.specs.Parts.{tells, Placed, passFrom}
 use Rattle.state.specs.Written.{nilUnknown}
 use Rattle.state.specs.declared.mention.Mark.{Mark}
 use Rattle.state.specs.declared.question.Place.{Place}
@@ -40,41 +40,41 @@ among from to q = leb from q && ltb q to
 unfoldable pub wanted : ℕ → ℕ → ℕ → Bool
 wanted from to q = among from to q || among 8 10 q
 
--- the mark of a part that is looked at, or is not
-unfoldable pub noted : Bool → Bool → Mark → Mark → Mark
-noted looked given′ n m = cond looked (laterOf given′ n m) m
-
--- the mark of the slice at a place, by the instant at which it applies
-abbrev pub markAt : Instant → ℕ → Slice → Mark
-markAt t i d = record { from = i + 1; instant = t; sequence = d .sequence }
-
+-- the mark of the slice at a place; of what a pass has found
 abbrev pub markOf : ℕ → Slice → Mark
-markOf i d = markAt (d .period .begin) i d
-
-abbrev pub markBy : (Slice → Instant) → Option Placed → Mark
-markBy when none = nothing
-markBy when (some b) = markAt (when (b .slice)) (b .place) (b .slice)
+markOf i d = record { from = i + 1; instant = d .period .begin; sequence = d .sequence }
 
 abbrev pub markDue : Option Placed → Mark
-markDue o = markBy (λ d. d .period .begin) o
+markDue none = nothing
+markDue (some b) = markOf (b .place) (b .slice)
 
-abbrev pub markValid : Instant → Option Placed → Mark
-markValid t o = markBy (λ d. t) o
+-- the place of what a pass has found, and one; 0 where it has found nothing
+abbrev pub placeAndOne : Option Placed → ℕ
+placeAndOne none = 0
+placeAndOne (some b) = b .place + 1
 
 -- ---- the anchor
--- a BASELINE that holds at t, by its own record
-unfoldable pub standsAlone : Instant → Slice → Bool
-standsAlone t b = counts baseline b && holds t (b .period .begin) (b .period .end)
+-- a slice of a kind with t in its own period
+unfoldable pub holding : ℕ → Instant → Slice → Bool
+holding kind t b = counts kind b && holds t (b .period .begin) (b .period .end)
 
 abbrev pub oneMore : ℕ → Few → Few
 oneMore i Zero = One i
 oneMore i (One j) = More
 oneMore i More = More
 
--- those that pass a test, from place i on
+-- those that pass a test: one slice more; from place i on
+abbrev pub tallyWith : (Slice → Bool) → Few → ℕ → Slice → Few
+tallyWith test few i d = cond (test d) (oneMore i few) few
+
 abbrev pub tallyFrom : (Slice → Bool) → ℕ → Few → List Slice → Few
-tallyFrom test i few [] = few
-tallyFrom test i few (d ∷ ds) = tallyFrom test (suc i) (cond (test d) (oneMore i few) few) ds
+tallyFrom test i few = passFrom (tallyWith test) few i
+
+-- since when a change can come after the anchor: from the begin of the only BASELINE that holds
+abbrev pub sinceOf : List ℕ → Few → Instant
+sinceOf p Zero = record { 0 = 0 }
+sinceOf p (One i) = periodOf (recordAt (recordSize (strideOf p)) i p) .begin
+sinceOf p More = record { 0 = 0 }
 
 -- the place of one lies below a number
 abbrev pub Below : ℕ → Few → Type 0
@@ -138,27 +138,24 @@ abbrev pub saidAt : List ℕ → ℕ → ℕ → List ℕ
 saidAt t n zero = nilUnknown (strideOf t)
 saidAt t n (suc i) = take (strideOf t) (drop (32 + n * strideOf t) (recordAt (recordSize (strideOf t)) i t))
 
--- property n as a mark of each table tells it; as the marks of both tables do
-unfoldable pub propertyBy : List ℕ → List ℕ → Start → Mark → Mark → ℕ → List ℕ
+-- property n as the mark of the permanent table, and the place and one of the temporary one, tell it; as those of all properties do
+unfoldable pub propertyBy : List ℕ → List ℕ → Start → Mark → ℕ → ℕ → List ℕ
 propertyBy p t s under over n =
-    cond (eqb (over .from) 0)
+    cond (eqb over 0)
     (saidAt p n (originOf s (tells n (viewOf (strideOf p) (recordAt (recordSize (strideOf p)) (s .place) p))) under))
-    (saidAt t n (over .from))
+    (saidAt t n over)
 
-unfoldable pub propertyFrom : List ℕ → List ℕ → Start → List Mark → List Mark → ℕ → List ℕ
-propertyFrom p t s ms os n =
-    cond (eqb (getD os n nothing .from) 0)
-    (saidAt p n (originOf s (tells n (viewOf (strideOf p) (recordAt (recordSize (strideOf p)) (s .place) p))) (getD ms n nothing)))
-    (saidAt t n (getD os n nothing .from))
+abbrev pub propertyFrom : List ℕ → List ℕ → Start → List Mark → List ℕ → ℕ → List ℕ
+propertyFrom p t s ms os n = propertyBy p t s (getD ms n nothing) (getD os n 0) n
 
 -- the first n of some runs of bytes, one behind the other
 abbrev pub runOf : (ℕ → List ℕ) → ℕ → List ℕ
 runOf f zero = []
 runOf f (suc n) = runOf f n ++ f n
 
--- the marks of the properties name records that are there
-abbrev pub Known : ℕ → List Mark → Type 0
-Known count ms = (q : ℕ) → q < 8 → getD ms q nothing .from ≤ count
+-- the places of the properties, and one, are those of records that are there
+abbrev pub Known : ℕ → (ℕ → ℕ) → Type 0
+Known count from = (q : ℕ) → q < 8 → from q ≤ count
 
 -- ---- where a property begins
 -- property n of a record, by the record's place and one
@@ -166,7 +163,7 @@ abbrev pub placeFrom : List ℕ → ℕ → ℕ → ℕ
 placeFrom t from n = 32 + (from - 1) * recordSize (strideOf t) + 32 + n * strideOf t
 
 -- by the latest mention in each table
-unfoldable pub placedBy : List ℕ → List ℕ → Start → Mark → Mark → ℕ → Place
+unfoldable pub placedBy : List ℕ → List ℕ → Start → Mark → ℕ → ℕ → Place
 placedBy p t s under over n =
     let k = originOf s (tells n (viewOf (strideOf p) (recordAt (recordSize (strideOf p)) (s .place) p))) under in
-    cond (eqb (over .from) 0) (cond (eqb k 0) place.Unmentioned (place.Permanent (placeFrom p k n))) (place.Temporary (placeFrom t (over .from) n))
+    cond (eqb over 0) (cond (eqb k 0) place.Unmentioned (place.Permanent (placeFrom p k n))) (place.Temporary (placeFrom t over n))

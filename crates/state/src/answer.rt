@@ -4,7 +4,6 @@ ghost use Rattle.table.specs.Header.{strideOf};
 ghost use Rattle.state.specs.Asking.{checkBoth, permanentStateOf, snapshotOf, afterState, afterSnapshot};
 use crate::anchor::Standing;
 use crate::anchor::settle;
-use crate::mention::no_mention;
 use crate::overlay::overlay;
 use crate::survey::survey_permanent;
 use crate::writing::put_state;
@@ -67,7 +66,7 @@ pub fn permanent_state(permanent: &[u8], instant: Instant, record: &mut [u8]) ->
                 instant,
                 start,
                 mentions,
-                no_mention(),
+                [0; 8],
             );
             Outcome::Written
         }
@@ -96,7 +95,7 @@ pub fn snapshot(permanent: &[u8], temporary: &[u8], instant: Instant, record: &m
         Standing::Refused(refusal) => Outcome::Refused(refusal),
         Standing::From(start) => {
             let mentions = found.latest;
-            let passing = overlay(temporary, instant, 0, 8);
+            let passing = overlay(temporary, instant);
             put_state(
                 record,
                 permanent,

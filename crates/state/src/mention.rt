@@ -5,7 +5,7 @@ ghost use Prim.Native.Nat.{ℕ, _≤_, _<_};
 ghost use lib.ListN.{length, getD};
 ghost use Rattle.slice.specs.Record.{recordSize, viewOf};
 ghost use Rattle.history.specs.Parts.{tells};
-ghost use Rattle.state.specs.Steps.{nothing, laterOf, noted, among};
+ghost use Rattle.state.specs.Steps.{nothing, laterOf};
 use numbers::Instant;
 use numbers::SequenceNumber;
 use octets::byte;

@@ -52,14 +52,14 @@ fn placed(
     temporary: &[u8],
     start: Start,
     under: Mark,
-    over: Mark,
+    over: usize,
     n: usize,
 ) -> Place
-    requires { ⌜ (n < 8) × ((countOf (now permanent) ≤ roomOf (recordSize (strideOf (now permanent))) (now permanent)) × ((start .place < countOf (now permanent)) × ((under .from ≤ countOf (now permanent)) × (over .from ≤ 256)))) ⌝ }
+    requires { ⌜ (n < 8) × ((countOf (now permanent) ≤ roomOf (recordSize (strideOf (now permanent))) (now permanent)) × ((start .place < countOf (now permanent)) × ((under .from ≤ countOf (now permanent)) × (over ≤ 256)))) ⌝ }
     ensures { λ r. ⌜ r ≡ placedBy (now (permanent .entry)) (now (temporary .entry)) start under over n ⌝ }
 {
-    if over.from != 0 {
-        return Place::Temporary(place_of(temporary, over.from, n));
+    if over != 0 {
+        return Place::Temporary(place_of(temporary, over, n));
     }
     let stride = stride_of(permanent);
     let anchor = record_at(permanent, 32 + 8 * stride, start.place);
@@ -89,9 +89,9 @@ pub fn locate(permanent: &[u8], temporary: &[u8], instant: Instant, property: u8
         Standing::Refused(refusal) => Place::Refused(refusal),
         Standing::From(start) => {
             let mentions = found.latest;
-            let passing = overlay(temporary, instant, n, n + 1);
+            let passing = overlay(temporary, instant);
             let under = mentions.marks[n];
-            let over = passing.marks[n];
+            let over = passing[n];
             placed(permanent, temporary, start, under, over, n)
         }
     }

@@ -1,16 +1,17 @@
 // One pass over the permanent table: its anchors at an instant, and the latest mention of each part.
 ghost use mathlib.Core.Path.{_≡_};
 ghost use mathlib.Core.Bool.{true};
-ghost use Prim.Native.Nat.{ℕ, _+_, _≤_};
+ghost use Prim.Native.Nat.{ℕ, _+_, _≤_, _<_};
 ghost use lib.ListN.{length, getD};
-ghost use Rattle.slice.specs.Record.{baseline, permdelta, recordSize, viewOf};
+ghost use Rattle.laws.specs.Keyed.{Rising};
+ghost use Rattle.slice.specs.Record.{baseline, recordSize, keyLess, sameKey, Slice, viewOf};
 ghost use Rattle.table.specs.Header.{countOf, strideOf, roomOf};
-ghost use Rattle.history.specs.Counted.{counts};
-ghost use Rattle.history.specs.Anchor.{stands, opens};
-ghost use Rattle.history.specs.Parts.{tells, due, latestDue};
+ghost use Rattle.history.specs.Counted.{counts, sliceKey};
+ghost use Rattle.history.specs.Anchor.{stands};
+ghost use Rattle.history.specs.Parts.{due, opensDue, latestDue};
 ghost use Rattle.state.specs.Asking.{slicesOf};
 ghost use Rattle.state.specs.declared.anchor.Few.the-variants.{Zero};
-ghost use Rattle.state.specs.Steps.{nothing, wanted, noted, markOf, markDue, tallyFrom, standsAlone};
+ghost use Rattle.state.specs.Steps.{nothing, wanted, markOf, markDue, tallyFrom, holding, sinceOf};
 use crate::anchor::Few;
 use crate::anchor::tallied;
 use crate::mention::Latest;
@@ -25,18 +26,23 @@ use slice::BASELINE;
 use slice::PERMDELTA;
 use slice::is_cancelled;
 use slice::key_of;
-use slice::life_of;
 use slice::period_of;
 use table::count_of;
 use table::record_at;
 use table::stride_of;
 
-// What a pass over the permanent table finds: the BASELINEs that hold at an instant, the PERMDELTAs that
-// have opened by it, and the latest mentions of those that are due.
+// What a pass over the permanent table finds: the BASELINEs that hold at an instant; of the PERMDELTAs that
+// can matter to it, those that open, and the latest mentions.
 pub struct Survey {
     pub bases: Few,
     pub openings: Few,
     pub latest: Latest,
+}
+
+// The front of a permanent table: the BASELINEs that hold at an instant, and where it ends.
+pub struct Front {
+    pub bases: Few,
+    pub end: usize,
 }
 
 // Whether a record is one of a kind that is not cancelled.
@@ -49,11 +55,11 @@ pub(crate) fn is_counted(record: &[u8], kind: u8) -> bool
     !is_cancelled(record)
 }
 
-// Whether a record is a BASELINE that holds at an instant.
-fn is_base(record: &[u8], instant: Instant) -> bool
-    ensures { λ r. ⌜ ((stride : ℕ) → r ≡ standsAlone instant (viewOf stride (now («record» .entry)))) ⌝ }
+// Whether a record is one of a kind that is not cancelled, with an instant in its period.
+pub(crate) fn is_holding(record: &[u8], kind: u8, instant: Instant) -> bool
+    ensures { λ r. ⌜ ((stride : ℕ) → r ≡ holding kind instant (viewOf stride (now («record» .entry)))) ⌝ }
 {
-    if !is_counted(record, BASELINE) {
+    if !is_counted(record, kind) {
         return false;
     }
     let period = period_of(record);
@@ -62,28 +68,16 @@ fn is_base(record: &[u8], instant: Instant) -> bool
     begin.at_most(instant) & instant.precedes(end)
 }
 
-// Whether a record is a PERMDELTA with its instant at most another.
-fn is_due(record: &[u8], instant: Instant) -> bool
-    ensures { λ r. ⌜ ((stride : ℕ) → r ≡ due instant (viewOf stride (now («record» .entry)))) ⌝ }
+// Whether a record is a PERMDELTA with its instant from one up to and with another.
+fn is_due(record: &[u8], since: Instant, instant: Instant) -> bool
+    ensures { λ r. ⌜ ((stride : ℕ) → r ≡ due since instant (viewOf stride (now («record» .entry)))) ⌝ }
 {
     if !is_counted(record, PERMDELTA) {
         return false;
     }
     let period = period_of(record);
     let begin = period.begin;
-    begin.at_most(instant)
-}
-
-// Whether a record is an opening PERMDELTA with its instant at most another.
-fn is_opening(record: &[u8], instant: Instant) -> bool
-    ensures { λ r. ⌜ ((stride : ℕ) → r ≡ opens instant (viewOf stride (now («record» .entry)))) ⌝ }
-{
-    if !is_due(record, instant) {
-        return false;
-    }
-    let life = life_of(record);
-    let begin = life.begin;
-    !begin.is_none()
+    since.at_most(begin) & begin.at_most(instant)
 }
 
 // The mention that a PERMDELTA makes: it applies at its instant.
@@ -102,29 +96,67 @@ fn mark_of(record: &[u8], place: usize) -> Mark
     }
 }
 
-// The one pass over a permanent table, for the properties from one up to another and the life times.
-pub(crate) fn survey_permanent(permanent: &[u8], instant: Instant, from: usize, to: usize) -> Survey
-    requires { ⌜ (countOf (now permanent) ≤ roomOf (recordSize (strideOf (now permanent))) (now permanent)) × ((from ≤ to) × (to ≤ 8)) ⌝ }
+// The front of a permanent table, its BASELINEs: those that hold at an instant, and where it ends.
+fn front_of(permanent: &[u8], instant: Instant) -> Front
+    requires { ⌜ (countOf (now permanent) ≤ roomOf (recordSize (strideOf (now permanent))) (now permanent)) × Rising sliceKey keyLess sameKey (slicesOf (now permanent)) ⌝ }
     ensures bases { λ r. ⌜ r .bases ≡ tallyFrom (stands (slicesOf (now (permanent .entry))) instant) 0 Zero (slicesOf (now (permanent .entry))) ⌝ }
-    ensures openings { λ r. ⌜ r .openings ≡ tallyFrom (opens instant) 0 Zero (slicesOf (now (permanent .entry))) ⌝ }
-    ensures marks { λ r. ⌜ (length (r .latest .marks) ≡ 10) × ((q : ℕ) → wanted from to q ≡ true → getD (r .latest .marks) q nothing ≡ markDue (latestDue q instant (slicesOf (now (permanent .entry))))) ⌝ }
+    ensures end { λ r. ⌜ (r .end ≤ countOf (now (permanent .entry))) × ((j : ℕ) (d : Slice) → j < r .end → getD (slicesOf (now (permanent .entry))) j d .kind ≤ baseline) ⌝ }
+{
+    let size = 32 + 8 * stride_of(permanent);
+    let count = count_of(permanent) as usize;
+    let mut bases = Few::Zero;
+    let mut i = 0;
+    while i < count {
+        let record = record_at(permanent, size, i);
+        if BASELINE < byte(record, 0) {
+            return Front { bases, end: i };
+        }
+        if is_holding(record, BASELINE, instant) {
+            bases = tallied(bases, i);
+        }
+        i += 1;
+    }
+    Front { bases, end: i }
+}
+
+// Since when a change can matter: the begin of the only BASELINE that holds; else from the first instant on.
+fn since_of(permanent: &[u8], bases: Few) -> Instant
+    ensures { λ r. ⌜ r ≡ sinceOf (now (permanent .entry)) bases ⌝ }
+{
+    match bases {
+        Few::Zero => Instant(0),
+        Few::One(place) => {
+            let stride = stride_of(permanent);
+            let period = period_of(record_at(permanent, 32 + 8 * stride, place));
+            period.begin
+        }
+        Few::More => Instant(0),
+    }
+}
+
+// The one pass over a permanent table, for the properties from one up to another and the life times: its
+// BASELINEs, and then the changes behind them.
+pub(crate) fn survey_permanent(permanent: &[u8], instant: Instant, from: usize, to: usize) -> Survey
+    requires { ⌜ (countOf (now permanent) ≤ roomOf (recordSize (strideOf (now permanent))) (now permanent)) × (Rising sliceKey keyLess sameKey (slicesOf (now permanent)) × ((from ≤ to) × (to ≤ 8))) ⌝ }
+    ensures bases { λ r. ⌜ r .bases ≡ tallyFrom (stands (slicesOf (now (permanent .entry))) instant) 0 Zero (slicesOf (now (permanent .entry))) ⌝ }
+    ensures openings { λ r. ⌜ r .openings ≡ tallyFrom (opensDue (sinceOf (now (permanent .entry)) (r .bases)) instant) 0 Zero (slicesOf (now (permanent .entry))) ⌝ }
+    ensures marks { λ r. ⌜ (length (r .latest .marks) ≡ 10) × ((q : ℕ) → wanted from to q ≡ true → getD (r .latest .marks) q nothing ≡ markDue (latestDue q (sinceOf (now (permanent .entry)) (r .bases)) instant (slicesOf (now (permanent .entry))))) ⌝ }
 {
     let stride = stride_of(permanent);
     let size = 32 + 8 * stride;
     let count = count_of(permanent) as usize;
-    let mut bases = Few::Zero;
+    let front = front_of(permanent, instant);
+    let bases = front.bases;
+    let since = since_of(permanent, bases);
     let mut openings = Few::Zero;
     let mut latest = no_mention();
-    let mut i = 0;
+    let mut i = front.end;
     while i < count {
         let record = record_at(permanent, size, i);
-        if is_base(record, instant) {
-            bases = tallied(bases, i);
-        }
-        if is_opening(record, instant) {
-            openings = tallied(openings, i);
-        }
-        if is_due(record, instant) {
+        if is_due(record, since, instant) {
+            if gives(record, stride, 8) {
+                openings = tallied(openings, i);
+            }
             let new = mark_of(record, i);
             let mut part = from;
             while part < to {

@@ -7,7 +7,7 @@ ghost use Rattle.octets.specs.Writing.{pasted};
 ghost use Rattle.slice.specs.Record.{recordSize, viewOf};
 ghost use Rattle.table.specs.Header.{countOf, strideOf, roomOf, recordAt};
 ghost use Rattle.state.specs.Written.{stateKind, stateTimes, nilUnknown};
-ghost use Rattle.state.specs.Steps.{Known, lifeFrom, saidAt, propertyBy, propertyFrom, runOf};
+ghost use Rattle.state.specs.Steps.{nothing, Known, lifeFrom, saidAt, propertyBy, propertyFrom, runOf};
 use crate::anchor::Start;
 use crate::anchor::life_at;
 use crate::anchor::origin;
@@ -94,14 +94,14 @@ fn put_latest(
     temporary: &[u8],
     start: Start,
     under: Mark,
-    over: Mark,
+    over: usize,
     n: usize,
 )
-    requires { ⌜ (n < 8) × ((countOf (now permanent) ≤ roomOf (recordSize (strideOf (now permanent))) (now permanent)) × ((countOf (now temporary) ≤ roomOf (recordSize (strideOf (now temporary))) (now temporary)) × ((start .place < countOf (now permanent)) × ((under .from ≤ countOf (now permanent)) × (over .from ≤ countOf (now temporary)))))) ⌝ }
+    requires { ⌜ (n < 8) × ((countOf (now permanent) ≤ roomOf (recordSize (strideOf (now permanent))) (now permanent)) × ((countOf (now temporary) ≤ roomOf (recordSize (strideOf (now temporary))) (now temporary)) × ((start .place < countOf (now permanent)) × ((under .from ≤ countOf (now permanent)) × (over ≤ countOf (now temporary)))))) ⌝ }
     ensures { λ _. ⌜ now («record» .exit) ≡ pasted (now («record» .entry)) (32 + n * strideOf (now (permanent .entry))) (propertyBy (now (permanent .entry)) (now (temporary .entry)) start under over n) ⌝ }
 {
-    if over.from != 0 {
-        put_property(record, temporary, n, over.from);
+    if over != 0 {
+        put_property(record, temporary, n, over);
         return;
     }
     let stride = stride_of(permanent);
@@ -117,15 +117,15 @@ fn put_properties(
     temporary: &[u8],
     start: Start,
     mentions: Latest,
-    passing: Latest,
+    passing: [usize; 8],
 )
-    requires { ⌜ (length (now «record») ≡ recordSize (strideOf (now permanent))) × ((countOf (now permanent) ≤ roomOf (recordSize (strideOf (now permanent))) (now permanent)) × ((countOf (now temporary) ≤ roomOf (recordSize (strideOf (now temporary))) (now temporary)) × ((start .place < countOf (now permanent)) × ((length (mentions .marks) ≡ 10) × ((length (passing .marks) ≡ 10) × (Known (countOf (now permanent)) (mentions .marks) × Known (countOf (now temporary)) (passing .marks))))))) ⌝ }
-    ensures { λ _. ⌜ now («record» .exit) ≡ pasted (now («record» .entry)) 32 (runOf (propertyFrom (now (permanent .entry)) (now (temporary .entry)) start (mentions .marks) (passing .marks)) 8) ⌝ }
+    requires { ⌜ (length (now «record») ≡ recordSize (strideOf (now permanent))) × ((countOf (now permanent) ≤ roomOf (recordSize (strideOf (now permanent))) (now permanent)) × ((countOf (now temporary) ≤ roomOf (recordSize (strideOf (now temporary))) (now temporary)) × ((start .place < countOf (now permanent)) × ((length (mentions .marks) ≡ 10) × ((length passing ≡ 8) × (Known (countOf (now permanent)) (λ q. getD (mentions .marks) q nothing .from) × Known (countOf (now temporary)) (λ q. getD passing q 0))))))) ⌝ }
+    ensures { λ _. ⌜ now («record» .exit) ≡ pasted (now («record» .entry)) 32 (runOf (propertyFrom (now (permanent .entry)) (now (temporary .entry)) start (mentions .marks) passing) 8) ⌝ }
 {
     let mut n = 0;
     while n < 8 {
         let under = mentions.marks[n];
-        let over = passing.marks[n];
+        let over = passing[n];
         put_latest(record, permanent, temporary, start, under, over, n);
         n += 1;
     }
@@ -139,10 +139,10 @@ pub(crate) fn put_state(
     instant: Instant,
     start: Start,
     mentions: Latest,
-    passing: Latest,
+    passing: [usize; 8],
 )
-    requires { ⌜ (length (now «record») ≡ recordSize (strideOf (now permanent))) × ((countOf (now permanent) ≤ roomOf (recordSize (strideOf (now permanent))) (now permanent)) × ((countOf (now temporary) ≤ roomOf (recordSize (strideOf (now temporary))) (now temporary)) × ((start .place < countOf (now permanent)) × ((length (mentions .marks) ≡ 10) × ((length (passing .marks) ≡ 10) × (Known (countOf (now permanent)) (mentions .marks) × Known (countOf (now temporary)) (passing .marks))))))) ⌝ }
-    ensures { λ _. ⌜ now («record» .exit) ≡ stateKind ++ (stateTimes instant (lifeFrom (now (permanent .entry)) start (mentions .marks)) ++ (replicate 8 0 ++ runOf (propertyFrom (now (permanent .entry)) (now (temporary .entry)) start (mentions .marks) (passing .marks)) 8)) ⌝ }
+    requires { ⌜ (length (now «record») ≡ recordSize (strideOf (now permanent))) × ((countOf (now permanent) ≤ roomOf (recordSize (strideOf (now permanent))) (now permanent)) × ((countOf (now temporary) ≤ roomOf (recordSize (strideOf (now temporary))) (now temporary)) × ((start .place < countOf (now permanent)) × ((length (mentions .marks) ≡ 10) × ((length passing ≡ 8) × (Known (countOf (now permanent)) (λ q. getD (mentions .marks) q nothing .from) × Known (countOf (now temporary)) (λ q. getD passing q 0))))))) ⌝ }
+    ensures { λ _. ⌜ now («record» .exit) ≡ stateKind ++ (stateTimes instant (lifeFrom (now (permanent .entry)) start (mentions .marks)) ++ (replicate 8 0 ++ runOf (propertyFrom (now (permanent .entry)) (now (temporary .entry)) start (mentions .marks) passing) 8)) ⌝ }
 {
     put_head(record, instant, life_of_state(permanent, start, mentions));
     put_properties(record, permanent, temporary, start, mentions, passing);

@@ -6,6 +6,7 @@ use mathlib.Core.List.{List}
 use native.Mathlib.Omega.{arith}
 use lib.ListN.{length, getD}
 use Rattle.laws.specs.Keyed.{Rising}
+use Rattle.numbers.specs.declared.Instant.{Instant}
 use Rattle.slice.specs.Record.{recordSize, keyLess, sameKey}
 use Rattle.slice.specs.declared.check.Checked.the-variants.{Sound}
 use Rattle.table.specs.Header.{countOf, strideOf, roomOf}
@@ -13,13 +14,14 @@ use Rattle.table.specs.Rules.{checkTable}
 use Rattle.table.specs.declared.check.Sides.the-variants as sides
 use Rattle.table.proofs.Sound.{sound-table}
 use Rattle.history.specs.Counted.{sliceKey}
+use Rattle.history.specs.Anchor.{stands}
 use Rattle.history.specs.Permanent.{Standing, permanentAt}
 use Rattle.history.specs.Snapshot.{passing, overlaid, snapshotAt}
-use Rattle.history.specs.Parts.{latestDue}
+use Rattle.history.specs.Parts.{opensDue, latestDue}
 use Rattle.state.specs.Asking.{slicesOf, checkBoth, snapshotOf, outcomeOf, recordOf}
-use Rattle.state.specs.Steps.{nothing, wanted, markDue}
+use Rattle.state.specs.Steps.{nothing, wanted, markDue, sinceOf}
 use Rattle.state.proofs.Slices.{sound-rising}
-use Rattle.state.proofs.Settled.{few-below, among-in, wanted-in, wanted-end, known-due, known-valid, Begun, Settled, settled}
+use Rattle.state.proofs.Settled.{few-below, wanted-in, wanted-end, known-due, known-valid, Begun, Settled, settled}
 use Rattle.state.proofs.Filled.{snapshot-filled}
 use Rattle.state.proofs.Stages.{both-sound, snapshot-refused, snapshot-left, left-none, left-misfit, left-asked}
 use borrow.Author.Needs.{needs}
@@ -61,17 +63,20 @@ asked c =
     left-asked (a .permanent .now) (a .instant) (a .«record» .now) (snapshotAt (a .instant) (slicesOf (a .permanent .now)) (slicesOf (a .temporary .now))) (sym (c .before .before .before .is-none .ensures) ∙ c .before .before .if1 .left) (fits c) ∙ snapshot-left _ _ _ _ (checked (c .before .before .before .before))
 
 -- what was settled
-marked : (c : tie.After-survey-permanent) (q : ℕ) → wanted 0 8 q ≡ true → getD (c .survey-permanent .result .latest .marks) q nothing ≡ markDue (latestDue q (c .before .before .before .before .before .before .before .before .before .before .before .args .instant) (slicesOf (table (c .before .before .before .before .before))))
+abbrev since : tie.After-survey-permanent → Instant
+since c = sinceOf (table (c .before .before .before .before .before)) (c .survey-permanent .result .bases)
+
+marked : (c : tie.After-survey-permanent) (q : ℕ) → wanted 0 8 q ≡ true → getD (c .survey-permanent .result .latest .marks) q nothing ≡ markDue (latestDue q (since c) (c .before .before .before .before .before .before .before .before .before .before .before .args .instant) (slicesOf (table (c .before .before .before .before .before))))
 marked c = c .survey-permanent .ensures .1 .1 .1
 
-stood : (c : tie.After-settle) → Settled (c .before .before .before .before .before .before .before .before .before .before .before .before .args .instant) (table (c .before .before .before .before .before .before)) (c .settle .result)
+stood : (c : tie.After-settle) → Settled (since (c .before)) (c .before .before .before .before .before .before .before .before .before .before .before .before .args .instant) (table (c .before .before .before .before .before .before)) (c .settle .result)
 stood c =
     let s = c .before .survey-permanent in
-    subst (Settled (c .before .before .before .before .before .before .before .before .before .before .before .before .args .instant) (table (c .before .before .before .before .before .before))) (sym (c .settle .ensures))
+    subst (Settled (since (c .before)) (c .before .before .before .before .before .before .before .before .before .before .before .before .args .instant) (table (c .before .before .before .before .before .before))) (sym (c .settle .ensures))
     (settled (c .before .before .before .before .before .before .before .before .before .before .before .before .args .instant) (table (c .before .before .before .before .before .before)) (roomy (c .before .before .before .before .before .before)) (up (c .before .before .before .before .before .before)) (s .result .bases) (s .result .openings) (s .result .latest .marks) (s .ensures .0) (s .ensures .1 .0) (marked (c .before) 9 (wanted-end 0 8)))
 
-begun : (c : tie.After-start) → Begun (c .before .before .before .before .before .before .before .before .before .before .before .before .before .before .args .instant) (table (c .before .before .before .before .before .before .before .before)) (c .start .given .0 .0)
-begun c = subst (Settled (c .before .before .before .before .before .before .before .before .before .before .before .before .before .before .args .instant) (table (c .before .before .before .before .before .before .before .before))) (c .start .given .1) (stood (c .before .before))
+begun : (c : tie.After-start) → Begun (since (c .before .before .before)) (c .before .before .before .before .before .before .before .before .before .before .before .before .before .before .args .instant) (table (c .before .before .before .before .before .before .before .before)) (c .start .given .0 .0)
+begun c = subst (Settled (since (c .before .before .before)) (c .before .before .before .before .before .before .before .before .before .before .before .before .before .before .args .instant) (table (c .before .before .before .before .before .before .before .before))) (c .start .given .1) (stood (c .before .before))
 
 -- the snapshot where the permanent state is told
 laid : (c : tie.After-enum-told) (s : Standing) → permanentAt (c .before .before .before .before .before .before .args .instant) (slicesOf (table c)) ≡ s
@@ -93,15 +98,15 @@ returns-3 c =
     (left-misfit _ _ _ (snapshotAt (a .instant) (slicesOf (a .permanent .now)) (slicesOf (a .temporary .now))) (sym (c .before .before .before .is-none .ensures) ∙ c .before .before .if1 .left) (λ e. c .if2 .taken (e ∙ sym (ap recordSize (c .before .stride-of .ensures)))) ∙ snapshot-left _ _ _ _ (checked (c .before .before .before .before)), refl)
 
 survey-permanent-requires : tie.Need-survey-permanent-requires
-survey-permanent-requires c κs = (roomy (c .before .before .before .before), (omega arith, omega arith))
+survey-permanent-requires c κs = (roomy (c .before .before .before .before), (up (c .before .before .before .before), (omega arith, omega arith)))
 
 settle-requires : tie.Need-settle-requires
 settle-requires c κs =
     let s = c .survey-permanent in
-    (s .ensures .1 .1 .0, (roomy (c .before .before .before .before .before), (rw (s .ensures .0) (few-below _ (table (c .before .before .before .before .before))), rw (s .ensures .1 .0) (few-below _ (table (c .before .before .before .before .before))))))
+    (s .ensures .1 .1 .0, (roomy (c .before .before .before .before .before), (rw (s .ensures .0) (few-below (stands (slicesOf (table (c .before .before .before .before .before))) (c .before .before .before .before .before .before .before .before .before .before .before .args .instant)) (table (c .before .before .before .before .before))), rw (s .ensures .1 .0) (few-below (opensDue (since c) (c .before .before .before .before .before .before .before .before .before .before .before .args .instant)) (table (c .before .before .before .before .before))))))
 
 overlay-requires : tie.Need-overlay-requires
-overlay-requires c κs = (roomy2 (c .before .before .before .before .before .before .before .before .before .before), (omega arith, omega arith))
+overlay-requires c κs = roomy2 (c .before .before .before .before .before .before .before .before .before .before)
 
 put-state-requires : tie.Need-put-state-requires
 put-state-requires c κs =
@@ -119,7 +124,7 @@ put-state-requires c κs =
               k .survey-permanent .ensures .1 .1 .0,
               (
                 c .before .overlay .ensures .0,
-                (λ q h. known-due (k .before .before .before .before .before .before .before .before .before .before .before .args .instant) (table (k .before .before .before .before .before)) r q _ (marked k q (wanted-in 0 8 q (omega arith) (omega arith))), λ q h. known-valid (k .before .before .before .before .before .before .before .before .before .before .before .args .instant) (other (k .before .before .before .before .before)) r2 q _ (c .before .overlay .ensures .1 q (among-in 0 8 q (omega arith) h))),
+                (λ q h. known-due (since k) (k .before .before .before .before .before .before .before .before .before .before .before .args .instant) (table (k .before .before .before .before .before)) r q _ (marked k q (wanted-in 0 8 q (omega arith) (omega arith))), λ q h. known-valid (k .before .before .before .before .before .before .before .before .before .before .before .args .instant) (other (k .before .before .before .before .before)) r2 q _ (c .before .overlay .ensures .1 q h)),
               ),
             ),
           ),
@@ -129,7 +134,7 @@ put-state-requires c κs =
 
 returns-4 : tie.Need-returns-4
 returns-4 c =
-    let stands = subst (Settled (c .before .before .before .before .before .before .before .before .before .before .before .before .before .before .before .args .instant) (table (c .before .before .before .before .before .before .before .before .before))) (c .before .refusal2 .given .1) (stood (c .before .before .before)) in
+    let stands = subst (Settled (since (c .before .before .before .before)) (c .before .before .before .before .before .before .before .before .before .before .before .before .before .before .before .args .instant) (table (c .before .before .before .before .before .before .before .before .before))) (c .before .refusal2 .given .1) (stood (c .before .before .before)) in
     (sym (ap outcomeOf (laid (c .before .before .before .before .before .before .before .before .before) _ stands)) ∙ asked (c .before .before .before .before .before), refl)
 
 returns-5 : tie.Need-returns-5
@@ -140,7 +145,7 @@ returns-5 c =
     let e = laid (k .before .before .before .before .before) _ (b .state) in (
       sym (ap outcomeOf e) ∙ asked (k .before),
       c .before .before .put-state .ensures
-          ∙ (snapshot-filled (a .instant) (table (k .before .before .before .before .before)) (roomy (k .before .before .before .before .before)) (up (k .before .before .before .before .before)) _ b (k .survey-permanent .result .latest .marks) (marked k) (other (k .before .before .before .before .before)) (c .before .before .before .before .overlay .result .marks) (sound2 (k .before .before .before .before .before)) (c .before .before .before .before .overlay .ensures .1)
+          ∙ (snapshot-filled (since k) (a .instant) (table (k .before .before .before .before .before)) (roomy (k .before .before .before .before .before)) (up (k .before .before .before .before .before)) _ b (k .survey-permanent .result .latest .marks) (marked k) (other (k .before .before .before .before .before)) (c .before .before .before .before .overlay .result) (sound2 (k .before .before .before .before .before)) (c .before .before .before .before .overlay .ensures .1)
           ∙ sym (ap (λ (s : Standing). recordOf (strideOf (table (k .before .before .before .before .before))) (a .instant) s (a .«record» .now)) e)),
     )
 

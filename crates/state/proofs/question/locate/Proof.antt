@@ -9,6 +9,7 @@ use lib.Dec.{ltb}
 use Rattle.laws.specs.Keyed.{Rising}
 use Rattle.laws.proofs.Tests.{tests, or-neither}
 use Rattle.numbers.specs.Numbers.{isNone}
+use Rattle.numbers.specs.declared.Instant.{Instant}
 use Rattle.slice.specs.Record.{recordSize, keyLess, sameKey}
 use Rattle.slice.specs.declared.check.Checked.the-variants.{Sound}
 use Rattle.table.specs.Header.{countOf, strideOf, roomOf}
@@ -17,12 +18,13 @@ use Rattle.table.specs.declared.check.Sides.the-variants as sides
 use Rattle.table.proofs.Records.{room-most}
 use Rattle.table.proofs.Sound.{sound-table}
 use Rattle.history.specs.Counted.{sliceKey}
+use Rattle.history.specs.Anchor.{stands}
 use Rattle.history.specs.Permanent.{permanentAt}
-use Rattle.history.specs.Parts.{latestDue}
+use Rattle.history.specs.Parts.{opensDue, latestDue}
 use Rattle.state.specs.Asking.{slicesOf, checkBoth, placeAt, placeOf}
-use Rattle.state.specs.Steps.{nothing, wanted, markDue}
+use Rattle.state.specs.Steps.{nothing, wanted, markDue, sinceOf}
 use Rattle.state.proofs.Slices.{sound-rising}
-use Rattle.state.proofs.Settled.{few-below, among-in, wanted-in, wanted-end, known-due, known-valid, Begun, Settled, settled}
+use Rattle.state.proofs.Settled.{few-below, wanted-in, wanted-end, known-due, known-valid, Begun, Settled, settled}
 use Rattle.state.proofs.Placed.{placed-is}
 use Rattle.state.proofs.Stages.{both-sound, place-refused, place-none, place-left}
 use borrow.Author.Needs.{needs}
@@ -62,18 +64,21 @@ small : (c : tie.Else1) → c .before .before .before .before .before .before .b
 small c = let e : ltb 7 (c .before .before .before .before .before .before .before .args .property) ≡ false = or-neither (c .before .is-none .result) _ (c .if1 .left) .1 in omega tests
 
 -- what was settled
+abbrev since : tie.After-survey-permanent → Instant
+since c = sinceOf (table (c .before .before .before)) (c .survey-permanent .result .bases)
+
 marked : (c : tie.After-survey-permanent) (q : ℕ) → wanted (c .before .before .before .before .before .before .before .before .args .property) (c .before .before .before .before .before .before .before .before .args .property + 1) q ≡ true
-    → getD (c .survey-permanent .result .latest .marks) q nothing ≡ markDue (latestDue q (c .before .before .before .before .before .before .before .before .args .instant) (slicesOf (table (c .before .before .before))))
+    → getD (c .survey-permanent .result .latest .marks) q nothing ≡ markDue (latestDue q (since c) (c .before .before .before .before .before .before .before .before .args .instant) (slicesOf (table (c .before .before .before))))
 marked c = c .survey-permanent .ensures .1 .1 .1
 
-stood : (c : tie.After-settle) → Settled (c .before .before .before .before .before .before .before .before .before .args .instant) (table (c .before .before .before .before)) (c .settle .result)
+stood : (c : tie.After-settle) → Settled (since (c .before)) (c .before .before .before .before .before .before .before .before .before .args .instant) (table (c .before .before .before .before)) (c .settle .result)
 stood c =
     let s = c .before .survey-permanent in
-    subst (Settled (c .before .before .before .before .before .before .before .before .before .args .instant) (table (c .before .before .before .before))) (sym (c .settle .ensures))
+    subst (Settled (since (c .before)) (c .before .before .before .before .before .before .before .before .before .args .instant) (table (c .before .before .before .before))) (sym (c .settle .ensures))
     (settled (c .before .before .before .before .before .before .before .before .before .args .instant) (table (c .before .before .before .before)) (roomy (c .before .before .before .before)) (up (c .before .before .before .before)) (s .result .bases) (s .result .openings) (s .result .latest .marks) (s .ensures .0) (s .ensures .1 .0) (marked (c .before) 9 (wanted-end _ _)))
 
-begun : (c : tie.After-start) → Begun (c .before .before .before .before .before .before .before .before .before .before .before .args .instant) (table (c .before .before .before .before .before .before)) (c .start .given .0 .0)
-begun c = subst (Settled (c .before .before .before .before .before .before .before .before .before .before .before .args .instant) (table (c .before .before .before .before .before .before))) (c .start .given .1) (stood (c .before .before))
+begun : (c : tie.After-start) → Begun (since (c .before .before .before)) (c .before .before .before .before .before .before .before .before .before .before .before .args .instant) (table (c .before .before .before .before .before .before)) (c .start .given .0 .0)
+begun c = subst (Settled (since (c .before .before .before)) (c .before .before .before .before .before .before .before .before .before .before .before .args .instant) (table (c .before .before .before .before .before .before))) (c .start .given .1) (stood (c .before .before))
 
 returns : tie.Need-returns
 returns c = place-refused _ _ _ _ _ (sym (c .before .before .before .check-both .ensures) ∙ c .before .refusal .given .1)
@@ -82,15 +87,15 @@ returns-2 : tie.Need-returns-2
 returns-2 c = place-none _ _ _ _ (checked (c .before .before)) (sym (test (c .before)) ∙ c .if1 .taken)
 
 survey-permanent-requires : tie.Need-survey-permanent-requires
-survey-permanent-requires c κs = (roomy (c .before .before), (omega arith, omega (arith, small c)))
+survey-permanent-requires c κs = (roomy (c .before .before), (up (c .before .before), (omega arith, omega (arith, small c))))
 
 settle-requires : tie.Need-settle-requires
 settle-requires c κs =
     let s = c .survey-permanent in
-    (s .ensures .1 .1 .0, (roomy (c .before .before .before), (rw (s .ensures .0) (few-below _ (table (c .before .before .before))), rw (s .ensures .1 .0) (few-below _ (table (c .before .before .before))))))
+    (s .ensures .1 .1 .0, (roomy (c .before .before .before), (rw (s .ensures .0) (few-below (stands (slicesOf (table (c .before .before .before))) (c .before .before .before .before .before .before .before .before .args .instant)) (table (c .before .before .before))), rw (s .ensures .1 .0) (few-below (opensDue (since c) (c .before .before .before .before .before .before .before .before .args .instant)) (table (c .before .before .before))))))
 
 overlay-requires : tie.Need-overlay-requires
-overlay-requires c κs = (roomy2 (c .before .before .before .before .before .before .before .before), (omega arith, omega (arith, small (c .before .before .before .before .before .before))))
+overlay-requires c κs = roomy2 (c .before .before .before .before .before .before .before .before)
 
 mul-under : tie.Need-mul-under
 mul-under c = omega (arith, small (c .before .before .before .before .before .before .before))
@@ -101,22 +106,22 @@ element-copy-out-under c = omega (arith, small (c .before .before .before .befor
 mul-over : tie.Need-mul-over
 mul-over c = omega (arith, small (c .before .before .before .before .before .before .before .before))
 
-element-copy-out-over : tie.Need-element-copy-out-over
-element-copy-out-over c = omega (arith, small (c .before .before .before .before .before .before .before .before))
+array-read-over : tie.Need-array-read-over
+array-read-over c = omega (arith, small (c .before .before .before .before .before .before .before .before))
 
 placed-requires : tie.Need-placed-requires
 placed-requires c κs =
-    let k = c .before .before .before .before .before .before .before .before in
+    let k = c .before .before .before .before .before .before .before in
     let n = k .before .before .before .before .before .before .before .before .args .property in
     let o = other (k .before .before .before) in
-    let over = known-valid (k .before .before .before .before .before .before .before .before .args .instant) o (roomy2 (k .before .before .before)) n _ (c .before .before .overlay .ensures .1 n (among-in n (n + 1) n (omega arith) (omega arith))) in (
+    let over = known-valid (k .before .before .before .before .before .before .before .before .args .instant) o (roomy2 (k .before .before .before)) n _ (c .before .overlay .ensures .1 n (small (k .before))) in (
       small (k .before),
       (
         roomy (k .before .before .before),
         (
-          begun (c .before .before .before .before .before) .place,
+          begun (c .before .before .before .before) .place,
           (
-            known-due (k .before .before .before .before .before .before .before .before .args .instant) (table (k .before .before .before)) (roomy (k .before .before .before)) n _ (marked k n (wanted-in n (n + 1) n (omega arith) (omega arith))),
+            known-due (since k) (k .before .before .before .before .before .before .before .before .args .instant) (table (k .before .before .before)) (roomy (k .before .before .before)) n _ (marked k n (wanted-in n (n + 1) n (omega arith) (omega arith))),
             omega (arith, over, roomy2 (k .before .before .before), room-most (recordSize (strideOf o)) o),
           ),
         ),
@@ -125,18 +130,18 @@ placed-requires c κs =
 
 returns-3 : tie.Need-returns-3
 returns-3 c =
-    let stands = subst (Settled (c .before .before .before .before .before .before .before .before .before .before .before .before .args .instant) (table (c .before .before .before .before .before .before .before))) (c .before .refusal2 .given .1) (stood (c .before .before .before)) in
+    let stands = subst (Settled (since (c .before .before .before .before)) (c .before .before .before .before .before .before .before .before .before .before .before .before .args .instant) (table (c .before .before .before .before .before .before .before))) (c .before .refusal2 .given .1) (stood (c .before .before .before)) in
     let a = c .before .before .before .before .before .before .before .before .before .before .before .before .args in
     sym (ap (placeAt (table (c .before .before .before .before .before .before .before)) (other (c .before .before .before .before .before .before .before)) (a .instant) (a .property)) stands) ∙ asked (c .before .before .before .before .before)
 
 returns-4 : tie.Need-returns-4
 returns-4 c =
-    let k = c .before .before .before .before .before .before .before .before .before in
-    let a = c .before .before .before .before .before .before .before .before .before .before .before .before .before .before .before .before .before .args in
+    let k = c .before .before .before .before .before .before .before .before in
+    let a = c .before .before .before .before .before .before .before .before .before .before .before .before .before .before .before .before .args in
     let n = a .property in
     c .placed .ensures
-    ∙ (placed-is (a .instant) (table (k .before .before .before)) (other (k .before .before .before)) (roomy (k .before .before .before)) (up (k .before .before .before)) (roomy2 (k .before .before .before)) (sound-rising (other (k .before .before .before)) sides.Temporary (sound (k .before .before .before) .1)) _ (begun (c .before .before .before .before .before .before)) n (small (k .before))
-    _ (marked k n (wanted-in n (n + 1) n (omega arith) (omega arith))) _ (c .before .before .before .overlay .ensures .1 n (among-in n (n + 1) n (omega arith) (omega arith)))
+    ∙ (placed-is (since k) (a .instant) (table (k .before .before .before)) (other (k .before .before .before)) (roomy (k .before .before .before)) (up (k .before .before .before)) (roomy2 (k .before .before .before)) (sound-rising (other (k .before .before .before)) sides.Temporary (sound (k .before .before .before) .1)) _ (begun (c .before .before .before .before .before)) n (small (k .before))
+    _ (marked k n (wanted-in n (n + 1) n (omega arith) (omega arith))) _ (c .before .before .overlay .ensures .1 n (small (k .before)))
     ∙ asked (k .before))
 
 pub locate-spec : {M : Type 1} → statement M
@@ -154,12 +159,11 @@ locate-spec =
     settle-requires
     (λ c. search needs)
     (λ c. search needs)
-    (λ c. search needs)
     overlay-requires
     mul-under
     element-copy-out-under
     mul-over
-    element-copy-out-over
+    array-read-over
     placed-requires
     returns-3
     returns-4)

@@ -19,42 +19,42 @@ use Rattle.state.proofs.question.placed.Statement.{statement}
 use Rattle.state.proofs.question.placed.Tie as tie
 
 abbrev table : tie.After-record-at → List ℕ
-table k = k .before .before .before .before .before .before .args .permanent .now
+table k = k .before .before .before .before .before .args .permanent .now
 
-read : (k : tie.After-record-at) → k .record-at .result .now ≡ recordAt (recordSize (strideOf (table k))) (k .before .before .before .before .before .before .args .start .place) (table k)
-read k = k .record-at .ensures .0 ∙ ap (λ (n : ℕ). recordAt (32 + 8 * n) (k .before .before .before .before .before .before .args .start .place) (table k)) (k .before .stride-of .ensures)
+read : (k : tie.After-record-at) → k .record-at .result .now ≡ recordAt (recordSize (strideOf (table k))) (k .before .before .before .before .before .args .start .place) (table k)
+read k = k .record-at .ensures .0 ∙ ap (λ (n : ℕ). recordAt (32 + 8 * n) (k .before .before .before .before .before .args .start .place) (table k)) (k .before .stride-of .ensures)
 
-seen : (k : tie.After-record-at) → viewOf (k .before .stride-of .result) (k .record-at .result .now) ≡ viewOf (strideOf (table k)) (recordAt (recordSize (strideOf (table k))) (k .before .before .before .before .before .before .args .start .place) (table k))
+seen : (k : tie.After-record-at) → viewOf (k .before .stride-of .result) (k .record-at .result .now) ≡ viewOf (strideOf (table k)) (recordAt (recordSize (strideOf (table k))) (k .before .before .before .before .before .args .start .place) (table k))
 seen k = ap (λ (n : ℕ). viewOf n (k .record-at .result .now)) (k .before .stride-of .ensures) ∙ ap (viewOf (strideOf (table k))) (read k)
 
-told : (c : tie.After-origin) → let a = c .before .before .before .before .before .before .before .args in
+told : (c : tie.After-origin) → let a = c .before .before .before .before .before .before .args in
     c .origin .result ≡ originOf (a .start) (tells (a .n) (viewOf (strideOf (table (c .before))) (recordAt (recordSize (strideOf (table (c .before)))) (a .start .place) (table (c .before))))) (a .under)
-told c = let a = c .before .before .before .before .before .before .before .args in c .origin .ensures ∙ ap (λ (v : Slice). originOf (a .start) (tells (a .n) v) (a .under)) (seen (c .before))
+told c = let a = c .before .before .before .before .before .before .args in c .origin .ensures ∙ ap (λ (v : Slice). originOf (a .start) (tells (a .n) v) (a .under)) (seen (c .before))
 
 most : (c : tie.After-origin) → c .origin .result ≤ countOf (table (c .before))
-most c = let s = c .before .before .before .before .before .before .before in rw (told c) (origin-known _ _ _ _ (s .pre .1 .1 .0) (s .pre .1 .1 .1 .0))
+most c = let s = c .before .before .before .before .before .before in rw (told c) (origin-known _ _ _ _ (s .pre .1 .1 .0) (s .pre .1 .1 .1 .0))
 
 returns : tie.Need-returns
 unfolding placedBy
 returns c =
-    let a = c .before .before .before .before .before .args in
+    let a = c .before .before .before .before .args in
     ap place.Temporary (c .place-of .ensures) ∙ rw (ne-eqb _ _ (c .before .if1 .taken))
 
 origin-requires : tie.Need-origin-requires
 origin-requires c κs =
-    let s = c .before .before .before .before .before .before in
+    let s = c .before .before .before .before .before in
     let p = s .pre .1 .0 in
     (ap length (read c) ∙ (size-at (table c) p (s .args .start .place) (s .pre .1 .1 .0) ∙ sym (ap recordSize (c .before .stride-of .ensures))), (omega arith, place-most (table c) p (s .args .start .place) (s .pre .1 .1 .0)))
 
 place-of-requires-2 : tie.Need-place-of-requires-2
 place-of-requires-2 c κs =
-    let s = c .before .before .before .before .before .before .before .before in
+    let s = c .before .before .before .before .before .before .before in
     (omega arith, (omega (arith, most (c .before), s .pre .1 .0, room-most (recordSize (strideOf (s .args .permanent .now))) (s .args .permanent .now)), s .pre .0))
 
 returns-2 : tie.Need-returns-2
 unfolding placedBy
 returns-2 c =
-    let a = c .before .before .before .before .before .before .before .before .before .args in
+    let a = c .before .before .before .before .before .before .before .before .args in
     ap place.Permanent (c .place-of2 .ensures ∙ ap (λ (k : ℕ). placeFrom (a .permanent .now) k (a .n)) (told (c .before .before))) ∙ rw (eq-eqb _ _ (c .before .before .before .before .before .if1 .left), ne-eqb _ 0 (λ e. c .before .if2 .taken (told (c .before .before) ∙ e)))
 
 returns-3 : tie.Need-returns-3

@@ -9,13 +9,13 @@ use Rattle.octets.specs.Writing.{pasted}
 use Rattle.octets.proofs.Writing.{pasted-length}
 use Rattle.table.specs.Header.{strideOf}
 use Rattle.state.specs.Steps.{nothing, propertyBy, propertyFrom, runOf}
-use Rattle.state.proofs.Pasting.{run-pasted, run-length, pasted-none, from-length, property-by}
+use Rattle.state.proofs.Pasting.{run-pasted, run-length, pasted-none, from-length}
 use borrow.Author.Needs.{needs}
 use Rattle.state.proofs.writing.put_properties.Statement.{statement}
 use Rattle.state.proofs.writing.put_properties.Tie as tie
 
 abbrev Inv-loop : tie.InvT-loop
-Inv-loop record₀ permanent temporary start mentions passing n₀ «record» n = (n ≤ 8) × ((length «record» ≡ length record₀) × («record» ≡ pasted record₀ 32 (runOf (propertyFrom permanent temporary start (mentions .marks) (passing .marks)) n)))
+Inv-loop record₀ permanent temporary start mentions passing n₀ «record» n = (n ≤ 8) × ((length «record» ≡ length record₀) × («record» ≡ pasted record₀ 32 (runOf (propertyFrom permanent temporary start (mentions .marks) passing) n)))
 
 abbrev μ-loop : tie.MeasureT-loop
 μ-loop record₀ permanent temporary start mentions passing n₀ «record» n = 8 - n
@@ -32,16 +32,16 @@ element-copy-out-under c = omega arith
 mul-over : tie.Need-mul-over Inv-loop μ-loop
 mul-over c = omega arith
 
-element-copy-out-over : tie.Need-element-copy-out-over Inv-loop μ-loop
-element-copy-out-over c = omega arith
+array-read-over : tie.Need-array-read-over Inv-loop μ-loop
+array-read-over c = omega arith
 
 put-latest-requires : tie.Need-put-latest-requires Inv-loop μ-loop
 put-latest-requires c κs =
-    let s = c .before .before .before .before .before .before .before .before in
+    let s = c .before .before .before .before .before .before .before in
     let p = s .pre in
-    let n = c .before .before .before .before .loop .n in
-    let h = c .before .before .before .loop-test .taken in
-    (c .before .before .before .loop-test .taken, (p .1 .0, (p .1 .1 .0, (p .1 .1 .1 .0, (p .1 .1 .1 .1 .1 .1 .0 n h, p .1 .1 .1 .1 .1 .1 .1 n h)))))
+    let n = c .before .before .before .loop .n in
+    let h = c .before .before .loop-test .taken in
+    (c .before .before .loop-test .taken, (p .1 .0, (p .1 .1 .0, (p .1 .1 .1 .0, (p .1 .1 .1 .1 .1 .1 .0 n h, p .1 .1 .1 .1 .1 .1 .1 n h)))))
 
 add-n : tie.Need-add-n Inv-loop μ-loop
 add-n c = omega arith
@@ -51,25 +51,24 @@ loop-less c = omega arith
 
 loop-again : tie.Need-loop-again Inv-loop μ-loop
 loop-again c =
-    let s = c .before .before .before .before .before .before .before .before .before .before .before in
+    let s = c .before .before .before .before .before .before .before .before .before .before in
     let p = s .pre in
     let a = s .args in
-    let l = c .before .before .before .before .before .before .before .loop in
-    let h = c .before .before .before .before .before .before .loop-test .taken in
-    let f = propertyFrom (a .permanent .now) (a .temporary .now) (a .start) (a .t5 .marks) (a .t6 .marks) in
-    let long = from-length (a .permanent .now) (a .temporary .now) (p .1 .0) (p .1 .1 .0) (a .start) (a .t5 .marks) (a .t6 .marks) (p .1 .1 .1 .0) (p .1 .1 .1 .1 .1 .1 .0) (p .1 .1 .1 .1 .1 .1 .1) in
+    let l = c .before .before .before .before .before .before .loop in
+    let h = c .before .before .before .before .before .loop-test .taken in
+    let f = propertyFrom (a .permanent .now) (a .temporary .now) (a .start) (a .t5 .marks) (a .t6) in
+    let long = from-length (a .permanent .now) (a .temporary .now) (p .1 .0) (p .1 .1 .0) (a .start) (a .t5 .marks) (a .t6) (p .1 .1 .1 .0) (p .1 .1 .1 .1 .1 .1 .0) (p .1 .1 .1 .1 .1 .1 .1) in
     let stride = strideOf (a .permanent .now) in
     let e = c .before .before .put-latest .ensures
-    ∙ (ap (λ (d : List ℕ). pasted d (32 + l .n * stride) (propertyBy (a .permanent .now) (a .temporary .now) (a .start) (getD (a .t5 .marks) (l .n) nothing) (getD (a .t6 .marks) (l .n) nothing) (l .n))) (l .inv .1 .1)
-    ∙ (ap (λ (b : List ℕ). pasted (pasted (a .«record» .now) 32 (runOf f (l .n))) (32 + l .n * stride) b) (property-by (a .permanent .now) (a .temporary .now) (a .start) (a .t5 .marks) (a .t6 .marks) (l .n))
-    ∙ run-pasted (a .«record» .now) f stride (l .n) (run-length f stride (l .n) (λ i k. long i (omega arith))) (long (l .n) h) (omega (arith, p .0, piece-within stride (l .n) 8 h)))) in
+    ∙ (ap (λ (d : List ℕ). pasted d (32 + l .n * stride) (propertyBy (a .permanent .now) (a .temporary .now) (a .start) (getD (a .t5 .marks) (l .n) nothing) (getD (a .t6) (l .n) 0) (l .n))) (l .inv .1 .1)
+    ∙ run-pasted (a .«record» .now) f stride (l .n) (run-length f stride (l .n) (λ i k. long i (omega arith))) (long (l .n) h) (omega (arith, p .0, piece-within stride (l .n) 8 h))) in
     (omega arith, (ap length e ∙ pasted-length (a .«record» .now) (runOf f (l .n + 1)) 32, e))
 
 returns : tie.Need-returns Inv-loop μ-loop
 returns c =
     let a = c .before .before .before .before .before .args in
     let e : c .before .loop .n ≡ 8 = omega arith in
-    c .before .loop .inv .1 .1 ∙ ap (λ (n : ℕ). pasted (a .«record» .now) 32 (runOf (propertyFrom (a .permanent .now) (a .temporary .now) (a .start) (a .t5 .marks) (a .t6 .marks)) n)) e
+    c .before .loop .inv .1 .1 ∙ ap (λ (n : ℕ). pasted (a .«record» .now) 32 (runOf (propertyFrom (a .permanent .now) (a .temporary .now) (a .start) (a .t5 .marks) (a .t6)) n)) e
 
 pub put-properties-spec : {M : Type 1} → statement M
 put-properties-spec =
@@ -81,7 +80,7 @@ put-properties-spec =
     mul-under
     element-copy-out-under
     mul-over
-    element-copy-out-over
+    array-read-over
     put-latest-requires
     add-n
     loop-less

@@ -20,8 +20,8 @@ returns c =
     let s = c .before .before .before .before .before .before .before .before .before .before .before .before in
     let p = s .pre in
     let a = s .args in
-    let f = propertyFrom (a .permanent .now) (a .temporary .now) (a .start) (a .mentions .marks) (a .passing .marks) in
-    let long = from-length (a .permanent .now) (a .temporary .now) (p .1 .0) (p .1 .1 .0) (a .start) (a .mentions .marks) (a .passing .marks) (p .1 .1 .1 .0) (p .1 .1 .1 .1 .1 .1 .0) (p .1 .1 .1 .1 .1 .1 .1) in
+    let f = propertyFrom (a .permanent .now) (a .temporary .now) (a .start) (a .mentions .marks) (a .passing) in
+    let long = from-length (a .permanent .now) (a .temporary .now) (p .1 .0) (p .1 .1 .0) (a .start) (a .mentions .marks) (a .passing) (p .1 .1 .1 .0) (p .1 .1 .1 .1 .1 .1 .0) (p .1 .1 .1 .1 .1 .1 .1) in
     let run = run-length f (strideOf (a .permanent .now)) 8 long in
     c .before .before .put-properties .ensures
     ∙ (ap (λ (d : List ℕ). pasted d 32 (runOf f 8)) (c .before .before .before .before .before .before .put-head .ensures ∙ ap (λ (l : Life). pasted (a .«record» .now) 0 (stateKind ++ (stateTimes (a .instant) l ++ replicate 8 0))) (c .before .before .before .before .before .before .before .life-of-state .ensures))

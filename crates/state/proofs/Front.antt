@@ -1,0 +1,44 @@
+-- A permanent table's BASELINEs stand in front: none holds behind them, and no change stands among them. Assumes nothing.
+use Prim.Native.Nat.{ℕ, _≤_, _<_}
+use mathlib.Core.Path.{_≡_, ap}
+use mathlib.Core.List.{List, _∷_}
+use mathlib.Core.Bool.{false, not, _&&_}
+use mathlib.Core.Logic.{inl, inr, ⊎-elim}
+use native.Mathlib.Omega.{arith}
+use lib.Dec.{eqb}
+use Rattle.laws.specs.Keyed.{In, Rising}
+use Rattle.laws.proofs.Tests.{tests}
+use Rattle.laws.proofs.Orders.{lex-true}
+use Rattle.numbers.specs.declared.Instant.{Instant}
+use Rattle.slice.specs.Record.{baseline, permdelta, keyLess, sameKey, Slice}
+use Rattle.history.specs.Counted.{counts, holds, sliceKey}
+use Rattle.history.specs.Period.{until}
+use Rattle.history.specs.Anchor.{stands}
+use Rattle.history.specs.Parts.{tells, due, opensDue}
+
+-- a slice of a kind above BASELINE, and all behind it
+pub kinds-rise : (d : Slice) (ds : List Slice) → Rising sliceKey keyLess sameKey (d ∷ ds) → baseline < d .kind → (x : Slice) → In x (d ∷ ds) → baseline < x .kind
+unfolding keyLess
+kinds-rise d ds up h x (inl e) = rw e h
+kinds-rise d ds (low, up) h x (inr m) =
+    ⊎-elim (λ l. omega arith) (λ (e, l). omega arith) (lex-true (d .kind) (d .sequence .0) (x .kind) (x .sequence .0) (low x m))
+
+not-counted : (kind : ℕ) (d : Slice) → eqb (d .kind) kind ≡ false → counts kind d ≡ false
+unfolding counts
+not-counted kind d e = rw e
+
+pub none-stands : (slices : List Slice) (t : Instant) (x : Slice) → baseline < x .kind → stands slices t x ≡ false
+unfolding stands
+none-stands slices t x h =
+    let e : eqb (x .kind) baseline ≡ false = omega tests in
+    rw (not-counted baseline x e)
+
+pub none-due : (since t : Instant) (x : Slice) → x .kind ≤ baseline → due since t x ≡ false
+unfolding due
+none-due since t x h =
+    let e : eqb (x .kind) permdelta ≡ false = omega tests in
+    rw (not-counted permdelta x e)
+
+pub none-opens : (since t : Instant) (x : Slice) → x .kind ≤ baseline → opensDue since t x ≡ false
+unfolding opensDue
+none-opens since t x h = rw (none-due since t x h)

@@ -1,0 +1,133 @@
+-- `state::survey::front_of` meets its contract. The loop: the tally stands for what was found so far, and each slice so far is none above BASELINE. Assumes nothing.
+use Prim.Native.Nat.{ℕ, _+_, _*_, _-_, _≤_, _<_}
+use mathlib.Core.Path.{_≡_, refl, sym, ap, subst, _∙_}
+use mathlib.Core.List.{List, _∷_}
+use mathlib.Core.Logic.{⊎-elim}
+use native.Mathlib.Omega.{arith}
+use lib.ListN.{getD, drop}
+use lib.Dec.{eqb}
+use Rattle.laws.specs.Keyed.{Rising}
+use Rattle.laws.proofs.Tests.{tests, by-test}
+use Rattle.laws.proofs.Put.{rising-drop}
+use Rattle.octets.specs.Bytes.{byteOf}
+use Rattle.slice.specs.Record.{baseline, recordSize, keyLess, sameKey, viewOf, Slice}
+use Rattle.slice.proofs.Keys.{key-order}
+use Rattle.table.specs.Header.{countOf, strideOf, roomOf, recordAt}
+use Rattle.history.specs.Counted.{sliceKey}
+use Rattle.history.specs.Anchor.{stands}
+use Rattle.state.specs.Asking.{slicesOf}
+use Rattle.state.specs.Steps.{holding, oneMore, tallyWith, tallyFrom}
+use Rattle.state.specs.declared.anchor.Few.{Few}
+use Rattle.state.specs.declared.anchor.Few.the-variants.{Zero}
+use Rattle.state.proofs.Slices.{slices-at, slices-end, slice-at}
+use Rattle.state.proofs.Marks.{Keeps, keeps-turn, keeps-past, keeps-rest, keeps-end, tally-past, tally-turn}
+use Rattle.state.proofs.Front.{kinds-rise, none-stands}
+use Rattle.state.proofs.Views.{base-holding}
+use borrow.Author.Needs.{needs}
+use Rattle.state.proofs.survey.front_of.Statement.{statement}
+use Rattle.state.proofs.survey.front_of.Tie as tie
+
+abbrev Inv-loop : tie.InvT-loop
+Inv-loop permanent instant size count bases₀ i₀ bases i = (i ≤ count) × (Keeps (tallyWith (stands (slicesOf permanent) instant)) (λ few. few) bases (tallyFrom (stands (slicesOf permanent) instant) 0 Zero (slicesOf permanent)) i (drop i (slicesOf permanent)) × ((j : ℕ) (d : Slice) → j < i → getD (slicesOf permanent) j d .kind ≤ baseline))
+
+abbrev μ-loop : tie.MeasureT-loop
+μ-loop permanent instant size count bases₀ i₀ bases i = count - i
+
+-- the record that a turn looks at, and the slice that it says
+abbrev table : tie.After-record-at Inv-loop μ-loop → List ℕ
+table k = k .before .before .before .before .before .before .args .permanent .now
+
+abbrev place : tie.After-record-at Inv-loop μ-loop → ℕ
+place k = k .before .before .loop .i
+
+below : (k : tie.After-record-at Inv-loop μ-loop) → place k < countOf (table k)
+below k = omega arith
+
+roomy : (k : tie.After-record-at Inv-loop μ-loop) → countOf (table k) ≤ roomOf (recordSize (strideOf (table k))) (table k)
+roomy k = k .before .before .before .before .before .before .pre .0
+
+read : (k : tie.After-record-at Inv-loop μ-loop) → k .record-at .result .now ≡ recordAt (recordSize (strideOf (table k))) (place k) (table k)
+read k = k .record-at .ensures .0 ∙ ap (λ (n : ℕ). recordAt (32 + 8 * n) (place k) (table k)) (k .before .before .before .before .stride-of .ensures)
+
+abbrev here : tie.After-record-at Inv-loop μ-loop → Slice
+here k = viewOf (strideOf (table k)) (recordAt (recordSize (strideOf (table k))) (place k) (table k))
+
+next : (k : tie.After-record-at Inv-loop μ-loop) → drop (place k) (slicesOf (table k)) ≡ here k ∷ drop (place k + 1) (slicesOf (table k))
+next k = slices-at (table k) (place k) (below k) (roomy k)
+
+kind : (b : tie.After-byte Inv-loop μ-loop) → b .byte .result ≡ here (b .before) .kind
+unfolding viewOf
+kind b = b .byte .ensures ∙ ap (λ r. byteOf r 0) (read (b .before))
+
+told : (v : tie.After-is-holding Inv-loop μ-loop) → v .is-holding .result ≡ stands (slicesOf (table (v .before .before .before))) (v .before .before .before .before .before .before .before .before .before .args .instant) (here (v .before .before .before))
+told v =
+    let k = v .before .before .before in
+    let t = v .before .before .before .before .before .before .before .before .before .args .instant in
+    v .is-holding .ensures (strideOf (table k)) ∙ (ap (λ r. holding baseline t (viewOf (strideOf (table k)) r)) (read k) ∙ base-holding (slicesOf (table k)) t (here k))
+
+loop-holds : tie.Need-loop-holds Inv-loop μ-loop
+loop-holds c =
+    (omega arith, ((Zero, refl, refl), λ j d h. absurd (omega arith)))
+
+returns : tie.Need-returns Inv-loop μ-loop
+returns c =
+    let k = c .before .before in
+    let t = c .before .before .before .before .before .before .before .before .args .instant in
+    let f = stands (slicesOf (table k)) t in
+    let l = c .before .before .before .before .loop in
+    let high : baseline < here k .kind = omega (arith, kind (c .before), c .if1 .taken) in
+    let up = subst (Rising sliceKey keyLess sameKey) (next k) (rising-drop sliceKey keyLess sameKey key-order (place k) (slicesOf (table k)) (c .before .before .before .before .before .before .before .before .pre .1)) in
+    (keeps-rest (tallyWith f) (λ few. few) (l .bases) (tallyFrom f 0 Zero (slicesOf (table k))) (place k) (here k ∷ drop (place k + 1) (slicesOf (table k))) (λ d m s n. tally-past f n d (none-stands (slicesOf (table k)) t d (kinds-rise (here k) (drop (place k + 1) (slicesOf (table k))) up high d m)) s) (subst (Keeps (tallyWith f) (λ few. few) (l .bases) (tallyFrom f 0 Zero (slicesOf (table k))) (place k)) (next k) (l .inv .1 .0)), (omega arith, l .inv .1 .1))
+
+loop-less : tie.Need-loop-less Inv-loop μ-loop
+loop-less c =
+    omega arith
+
+loop-again : tie.Need-loop-again Inv-loop μ-loop
+loop-again c =
+    let k = c .before .before .before .before in
+    let t = c .before .before .before .before .before .before .before .before .before .before .args .instant in
+    let f = stands (slicesOf (table k)) t in
+    let l = c .before .before .before .before .before .before .loop in
+    let low : here k .kind ≤ baseline = omega (arith, kind (c .before .before .before), c .before .before .if1 .left) in (
+      omega arith,
+      (
+        ⊎-elim
+            (λ x. keeps-turn (tallyWith f) (λ few. few) (l .bases) _ (tallyFrom f 0 Zero (slicesOf (table k))) (place k) (here k) _ _ (next k) (oneMore (place k)) (tally-turn f (place k) (here k) (sym (told (c .before)) ∙ x .0 .taken)) (x .2 ∙ x .1 .ensures) (l .inv .1 .0))
+            (λ x. keeps-past (tallyWith f) (λ few. few) (l .bases) _ (tallyFrom f 0 Zero (slicesOf (table k))) (place k) (here k) _ _ (next k) (tally-past f (place k) (here k) (sym (told (c .before)) ∙ x .0 .left)) (x .1) (l .inv .1 .0))
+            (c .if2 .came),
+        λ j d h.
+            by-test (eqb j (place k))
+            (λ y. let e : j ≡ place k = omega tests in rw (ap (λ (n : ℕ). getD (slicesOf (table k)) n d) e ∙ slice-at (table k) (place k) d (below k) (roomy k)) low)
+            (λ n. l .inv .1 .1 j d (omega tests)),
+      ),
+    )
+
+returns-2 : tie.Need-returns-2 Inv-loop μ-loop
+returns-2 c =
+    let l = c .before .loop in
+    let a = c .before .before .before .before .before .args in
+    let f = stands (slicesOf (a .permanent .now)) (a .instant) in
+    (keeps-end (tallyWith f) (λ few. few) (l .bases) (tallyFrom f 0 Zero (slicesOf (a .permanent .now))) (l .i) _ (slices-end (a .permanent .now) (l .i) (omega arith)) (l .inv .1 .0), (omega arith, l .inv .1 .1))
+
+pub front-of-spec : {M : Type 1} → statement M
+front-of-spec =
+    tie.close
+    (tie.spec
+    Inv-loop
+    μ-loop
+    (λ c κs. search needs)
+    (λ c. search needs)
+    (λ c. search needs)
+    (λ c κs. search needs)
+    (λ c. search needs)
+    loop-holds
+    (λ c κs. search needs)
+    (λ c κs. search needs)
+    returns
+    (λ c κs. search needs)
+    (λ c κs. search needs)
+    (λ c. search needs)
+    loop-less
+    loop-again
+    returns-2)

@@ -1,0 +1,41 @@
+-- `state::survey::since_of` meets its contract: the begin of the record at the place. Assumes nothing.
+use Prim.Native.Nat.{ℕ, _+_, _*_}
+use mathlib.Core.Path.{_≡_, sym, ap, _∙_}
+use mathlib.Core.List.{List}
+use Rattle.slice.specs.Record.{periodOf}
+use Rattle.table.specs.Header.{recordAt}
+use Rattle.state.specs.Steps.{sinceOf}
+use borrow.Author.Needs.{needs}
+use Rattle.state.proofs.survey.since_of.Statement.{statement}
+use Rattle.state.proofs.survey.since_of.Tie as tie
+
+returns : tie.Need-returns
+returns c =
+    sym (ap (sinceOf (c .before .before .before .args .permanent .now)) (c .enum-told .given .1))
+
+returns-2 : tie.Need-returns-2
+returns-2 c =
+    let a = c .before .before .before .before .before .before .before .before .args in
+    let i = c .before .before .before .before .before .bases .given .0 .0 in
+    ap (λ p. p .begin) (c .before .period-of .ensures ∙ ap periodOf (c .before .before .record-at .ensures .0 ∙ ap (λ (n : ℕ). recordAt (32 + 8 * n) i (a .permanent .now)) (c .before .before .before .stride-of .ensures)))
+    ∙ sym (ap (sinceOf (a .permanent .now)) (c .before .before .before .before .before .bases .given .1))
+
+returns-3 : tie.Need-returns-3
+returns-3 c =
+    sym (ap (sinceOf (c .before .before .before .args .permanent .now)) (c .enum-told2 .given .1))
+
+pub since-of-spec : {M : Type 1} → statement M
+since-of-spec =
+    tie.close
+    (tie.spec
+    (λ c. search needs)
+    (λ c. search needs)
+    (λ c κs. search needs)
+    (λ c. search needs)
+    (λ c. search needs)
+    (λ c κs. search needs)
+    (λ c κs. search needs)
+    (λ c. search needs)
+    returns
+    returns-2
+    returns-3)
