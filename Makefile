@@ -1,14 +1,18 @@
 # make test     the gate: proves, tries the wrong programs, runs the programs, compares with the second program
+# make wrong    tries the further wrong programs, those under crates/*/wrong (three quarters of an hour)
 # make sample   proves and builds the program `vectors`, and asks it about samples/feed, samples/states and samples/slices
 # make lib      proves the C interface and writes target/staticlib/libtimeslices.a, for x86-64
 # make compare  plays random calls to the library and to the second program for a minute (x86-64)
 # make bench    measures the library against plain Rust (x86-64)
 # make fmt      lays out every file of Rattle and antt
 
-.PHONY: test sample lib compare bench second-linked fmt
+.PHONY: test wrong sample lib compare bench second-linked fmt
 
 test:
 	@.ci/run
+
+wrong:
+	@tools/wrong
 
 sample:
 	@echo 'proving and building: about three minutes' >&2

@@ -1,8 +1,8 @@
 -- A permanent table's BASELINEs stand in front: none holds behind them, and no change stands among them. Assumes nothing.
 use Prim.Native.Nat.{ℕ, _≤_, _<_}
-use mathlib.Core.Path.{_≡_, ap}
+use mathlib.Core.Path.{_≡_}
 use mathlib.Core.List.{List, _∷_}
-use mathlib.Core.Bool.{false, not, _&&_}
+use mathlib.Core.Bool.{false}
 use mathlib.Core.Logic.{inl, inr, ⊎-elim}
 use native.Mathlib.Omega.{arith}
 use lib.Dec.{eqb}
@@ -12,9 +12,8 @@ use Rattle.laws.proofs.Orders.{lex-true}
 use Rattle.numbers.specs.declared.Instant.{Instant}
 use Rattle.slice.specs.Record.{baseline, permdelta, keyLess, sameKey, Slice}
 use Rattle.history.specs.Counted.{counts, holds, sliceKey}
-use Rattle.history.specs.Period.{until}
 use Rattle.history.specs.Anchor.{stands}
-use Rattle.history.specs.Parts.{tells, due, opensDue}
+use Rattle.history.specs.Parts.{due, opensDue}
 
 -- a slice of a kind above BASELINE, and all behind it
 pub kinds-rise : (d : Slice) (ds : List Slice) → Rising sliceKey keyLess sameKey (d ∷ ds) → baseline < d .kind → (x : Slice) → In x (d ∷ ds) → baseline < x .kind

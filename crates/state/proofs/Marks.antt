@@ -12,7 +12,6 @@ use lib.Seq.{getD-set-same, getD-set-other}
 use Rattle.laws.specs.Orders.{lexLess}
 use Rattle.laws.specs.Keyed.{In}
 use Rattle.laws.proofs.Tests.{tests, by-test, contrary, and-both, and-false, or-either}
-use Rattle.numbers.specs.declared.Instant.{Instant}
 use Rattle.slice.specs.Record.{Slice}
 use Rattle.history.specs.Permanent.{turnLess}
 use Rattle.history.specs.Parts.{tells, Placed, passFrom, laterTurn, latestWith}

@@ -1,6 +1,5 @@
 // The permanent state and the snapshot, written as a record.
 ghost use mathlib.Core.Path.{_≡_};
-ghost use Rattle.table.specs.Header.{strideOf};
 ghost use Rattle.state.specs.Asking.{checkBoth, permanentStateOf, snapshotOf, afterState, afterSnapshot};
 use crate::anchor::Standing;
 use crate::anchor::settle;

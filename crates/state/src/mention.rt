@@ -1,7 +1,7 @@
 // The latest mention of each part of a state. A part is a property, 0 to 7, the life begin, 8, or the
 // life end, 9.
 ghost use mathlib.Core.Path.{_≡_};
-ghost use Prim.Native.Nat.{ℕ, _≤_, _<_};
+ghost use Prim.Native.Nat.{ℕ, _<_};
 ghost use lib.ListN.{length, getD};
 ghost use Rattle.slice.specs.Record.{recordSize, viewOf};
 ghost use Rattle.history.specs.Parts.{tells};

@@ -1,11 +1,11 @@
 // A state written as a record: kind 4, its times, and the eight properties.
 ghost use mathlib.Core.Path.{_≡_};
-ghost use Prim.Native.Nat.{ℕ, _+_, _*_, _≤_, _<_};
+ghost use Prim.Native.Nat.{_+_, _*_, _≤_, _<_};
 ghost use mathlib.Core.List.{_++_};
 ghost use lib.ListN.{length, getD, replicate};
 ghost use Rattle.octets.specs.Writing.{pasted};
-ghost use Rattle.slice.specs.Record.{recordSize, viewOf};
-ghost use Rattle.table.specs.Header.{countOf, strideOf, roomOf, recordAt};
+ghost use Rattle.slice.specs.Record.{recordSize};
+ghost use Rattle.table.specs.Header.{countOf, strideOf, roomOf};
 ghost use Rattle.state.specs.Written.{stateKind, stateTimes, nilUnknown};
 ghost use Rattle.state.specs.Steps.{nothing, Known, lifeFrom, saidAt, propertyBy, propertyFrom, runOf};
 use crate::anchor::Start;

@@ -8,7 +8,7 @@ use mathlib.Core.Logic.{⊎-elim}
 use native.Mathlib.Omega.{arith}
 use lib.ListN.{length, getD, drop, length-set, getD-replicate}
 use Rattle.slice.specs.Record.{tempdelta, recordSize, viewOf, Slice}
-use Rattle.table.specs.Header.{countOf, strideOf, roomOf, recordAt}
+use Rattle.table.specs.Header.{countOf, strideOf, recordAt}
 use Rattle.history.specs.Snapshot.{valid}
 use Rattle.history.specs.Parts.{tells, latestWith, latestValid}
 use Rattle.state.specs.Asking.{slicesOf}

@@ -1,7 +1,6 @@
 -- `state::survey::since_of` meets its contract: the begin of the record at the place. Assumes nothing.
 use Prim.Native.Nat.{ℕ, _+_, _*_}
-use mathlib.Core.Path.{_≡_, sym, ap, _∙_}
-use mathlib.Core.List.{List}
+use mathlib.Core.Path.{sym, ap, _∙_}
 use Rattle.slice.specs.Record.{periodOf}
 use Rattle.table.specs.Header.{recordAt}
 use Rattle.state.specs.Steps.{sinceOf}

@@ -3,7 +3,7 @@ use Prim.Native.Nat.{ℕ, _+_, _*_, _-_, _≤_, _<_}
 use mathlib.Core.Path.{_≡_, refl, sym, ap, subst, _∙_}
 use mathlib.Core.Bool.{Bool, true, false, _&&_}
 use mathlib.Core.List.{List, _∷_}
-use mathlib.Core.Logic.{_⊎_, ⊎-elim}
+use mathlib.Core.Logic.{⊎-elim}
 use mathlib.Core.Option.{none}
 use native.Mathlib.Omega.{arith}
 use lib.ListN.{length, getD, drop, set, length-set}
@@ -12,7 +12,7 @@ use Rattle.slice.specs.Record.{recordSize, viewOf, Slice}
 use Rattle.table.specs.Header.{countOf, strideOf, roomOf, recordAt}
 use Rattle.history.specs.Parts.{tells, due, opensDue, laterTurn, latestWith, latestDue}
 use Rattle.state.specs.Asking.{slicesOf}
-use Rattle.state.specs.Steps.{nothing, wanted, laterOf, markOf, markDue, oneMore, tallyWith, tallyFrom, sinceOf}
+use Rattle.state.specs.Steps.{nothing, wanted, laterOf, markOf, markDue, oneMore, tallyWith, tallyFrom}
 use Rattle.state.specs.declared.mention.Mark.{Mark}
 use Rattle.state.specs.declared.mention.Latest.{Latest}
 use Rattle.state.specs.declared.anchor.Few.{Few}
