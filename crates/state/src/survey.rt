@@ -46,7 +46,7 @@ pub struct Front {
 }
 
 // Whether a record is one of a kind that is not cancelled.
-pub(crate) fn is_counted(record: &[u8], kind: u8) -> bool
+fn is_counted(record: &[u8], kind: u8) -> bool
     ensures { λ r. ⌜ ((stride : ℕ) → r ≡ counts kind (viewOf stride (now («record» .entry)))) ⌝ }
 {
     if byte(record, 0) != kind {
