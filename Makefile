@@ -1,5 +1,5 @@
 # make test     the gate: proves, tries the wrong programs, runs the programs, compares with the second program
-# make wrong    tries the further wrong programs, those under crates/*/wrong (three quarters of an hour)
+# make wrong    tries the further wrong programs, those under crates/*/wrong (over half an hour)
 # make sample   proves and builds the program `vectors`, and asks it about samples/feed, samples/states and samples/slices
 # make lib      proves the C interface and writes target/staticlib/libtimeslices.a, for x86-64
 # make compare  plays random calls to the library and to the second program for a minute (x86-64)

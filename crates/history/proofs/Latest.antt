@@ -1,5 +1,5 @@
--- One pass over the slices as they stand finds the slice that stands last where they are put in order: both are the latest, and
--- there is one. Assumes nothing.
+-- One pass over the slices as they stand finds the slice that stands last where they are put in order. Of PERMDELTAs both are the
+-- latest, and there is one; TEMPDELTAs are in order as they stand. Assumes nothing.
 use Prim.Native.Nat.{ℕ, suc, _+_, _<_}
 use mathlib.Core.Path.{_≡_, refl, sym, ap, _∙_, subst, fun-ext}
 use mathlib.Core.List.{List, [], _∷_}

@@ -1,8 +1,8 @@
 -- A permanent table's BASELINEs stand in front: none holds behind them, and no change stands among them. Assumes nothing.
 use Prim.Native.Nat.{ℕ, _≤_, _<_}
-use mathlib.Core.Path.{_≡_}
+use mathlib.Core.Path.{_≡_, ap}
 use mathlib.Core.List.{List, _∷_}
-use mathlib.Core.Bool.{false}
+use mathlib.Core.Bool.{Bool, false, _&&_}
 use mathlib.Core.Logic.{inl, inr, ⊎-elim}
 use native.Mathlib.Omega.{arith}
 use lib.Dec.{eqb}
@@ -13,7 +13,7 @@ use Rattle.numbers.specs.declared.Instant.{Instant}
 use Rattle.slice.specs.Record.{baseline, permdelta, keyLess, sameKey, Slice}
 use Rattle.history.specs.Counted.{counts, holds, sliceKey}
 use Rattle.history.specs.Anchor.{stands}
-use Rattle.history.specs.Parts.{due, opensDue}
+use Rattle.history.specs.Parts.{tells, due, opensDue}
 
 -- a slice of a kind above BASELINE, and all behind it
 pub kinds-rise : (d : Slice) (ds : List Slice) → Rising sliceKey keyLess sameKey (d ∷ ds) → baseline < d .kind → (x : Slice) → In x (d ∷ ds) → baseline < x .kind
@@ -38,6 +38,10 @@ none-due since t x h =
     let e : eqb (x .kind) permdelta ≡ false = omega tests in
     rw (not-counted permdelta x e)
 
-pub none-opens : (since t : Instant) (x : Slice) → x .kind ≤ baseline → opensDue since t x ≡ false
+-- one that is due opens where it tells the life begin
+pub opens-told : (since t : Instant) (d : Slice) (b : Bool) → due since t d ≡ b → opensDue since t d ≡ (b && tells 8 d)
 unfolding opensDue
-none-opens since t x h = rw (none-due since t x h)
+opens-told since t d b e = ap (λ x. x && tells 8 d) e
+
+pub none-opens : (since t : Instant) (x : Slice) → x .kind ≤ baseline → opensDue since t x ≡ false
+none-opens since t x h = opens-told since t x false (none-due since t x h)

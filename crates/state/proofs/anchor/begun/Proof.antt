@@ -4,7 +4,7 @@ use mathlib.Core.Path.{_≡_, sym, ap, ap₂, _∙_}
 use mathlib.Core.Bool.{not, _&&_}
 use mathlib.Core.List.{List}
 use native.Mathlib.Omega.{arith}
-use lib.ListN.{length, getD}
+use lib.ListN.{getD}
 use Rattle.numbers.specs.Numbers.{given, atMost}
 use Rattle.slice.specs.Record.{recordSize, periodOf, keyOf, viewOf, Slice}
 use Rattle.slice.specs.declared.record.Period.{Period}
@@ -14,9 +14,8 @@ use Rattle.table.specs.Header.{strideOf, recordAt}
 use Rattle.history.specs.Parts.{tells}
 use Rattle.state.specs.Steps.{nothing, originOf, lifeAt, startAt}
 use Rattle.state.specs.declared.anchor.Start.{Start}
-use Rattle.state.proofs.Walks.{size-at, place-most}
+use Rattle.state.proofs.Walks.{place-most, read-by, seen-by, sized-by}
 use Rattle.state.proofs.Anchors.{endedAt, found-ended, found-going}
-use borrow.Author.Needs.{needs}
 use borrow.Author.Needs.{needs}
 use Rattle.state.proofs.anchor.begun.Statement.{statement}
 use Rattle.state.proofs.anchor.begun.Tie as tie
@@ -28,7 +27,7 @@ abbrev anchor : tie.After-key-of → List ℕ
 anchor c = let a = asked c .args in recordAt (recordSize (strideOf (a .permanent .now))) (a .place) (a .permanent .now)
 
 read : (c : tie.After-key-of) → c .before .before .record-at .result .now ≡ anchor c
-read c = let a = asked c .args in c .before .before .record-at .ensures .0 ∙ ap (λ (n : ℕ). recordAt (32 + 8 * n) (a .place) (a .permanent .now)) (c .before .before .before .stride-of .ensures)
+read c = let a = asked c .args in read-by (a .permanent .now) (a .place) (c .before .before .before .stride-of .ensures) (c .before .before .record-at .ensures .0)
 
 abbrev made : tie.After-key-of → Start
 made c = record { based = asked c .args .based; place = asked c .args .place; begin = c .before .period-of .result .begin; sequence = c .key-of .result .sequence }
@@ -39,7 +38,7 @@ made-is c =
     (c .before .period-of .ensures ∙ ap periodOf (read c)) (c .key-of .ensures ∙ ap keyOf (read c))
 
 seen : (c : tie.After-key-of) → viewOf (c .before .before .before .stride-of .result) (c .before .before .record-at .result .now) ≡ viewOf (strideOf (asked c .args .permanent .now)) (anchor c)
-seen c = ap (λ (n : ℕ). viewOf n (c .before .before .record-at .result .now)) (c .before .before .before .stride-of .ensures) ∙ ap (viewOf (strideOf (asked c .args .permanent .now))) (read c)
+seen c = seen-by (asked c .args .permanent .now) (asked c .args .place) (c .before .before .before .stride-of .ensures) (read c)
 
 ended : (c : tie.After-life-at) → let a = c .before .before .before .before .before .before .before .before .before .before .args in
     c .life-at .result .end ≡ endedAt (a .instant) (a .permanent .now) (getD (a .t3 .marks) 9 nothing) (a .based) (a .place)
@@ -58,7 +57,7 @@ origin-requires : tie.Need-origin-requires
 origin-requires c κs =
     let a = c .before .before .before .before .before .before .before .before .args in
     let t = a .permanent .now in
-    (ap length (read (c .before .before .before)) ∙ (size-at t (c .before .before .before .before .before .before .before .before .pre .1 .0) (a .place) (c .before .before .before .before .before .before .before .before .pre .1 .1) ∙ sym (ap recordSize (c .before .before .before .before .before .before .stride-of .ensures))), (omega arith, place-most t (c .before .before .before .before .before .before .before .before .pre .1 .0) (a .place) (c .before .before .before .before .before .before .before .before .pre .1 .1)))
+    (sized-by t (a .place) (c .before .before .before .before .before .before .stride-of .ensures) (read (c .before .before .before)) (c .before .before .before .before .before .before .before .before .pre .1 .0) (c .before .before .before .before .before .before .before .before .pre .1 .1), (omega arith, place-most t (c .before .before .before .before .before .before .before .before .pre .1 .0) (a .place) (c .before .before .before .before .before .before .before .before .pre .1 .1)))
 
 returns : tie.Need-returns
 returns c = found-ended _ _ _ _ _ _ (ended (c .before .before .before .before)) (sym (test (c .before)) ∙ c .if1 .taken)

@@ -1,5 +1,5 @@
 -- `state::overlay::overlay` meets its contract. The outer loop: each place stands for the last mention so far. The inner: the properties before this one are noted. Assumes nothing.
-use Prim.Native.Nat.{ℕ, _+_, _*_, _-_, _≤_, _<_}
+use Prim.Native.Nat.{ℕ, _+_, _-_, _≤_, _<_}
 use mathlib.Core.Path.{_≡_, refl, sym, ap, _∙_}
 use mathlib.Core.Bool.{true, cond, _&&_}
 use mathlib.Core.List.{List, _∷_}
@@ -14,7 +14,7 @@ use Rattle.history.specs.Parts.{tells, latestWith, latestValid}
 use Rattle.state.specs.Asking.{slicesOf}
 use Rattle.state.specs.Steps.{placeAndOne, holding}
 use Rattle.state.proofs.Slices.{slices-at, slices-end}
-use Rattle.state.proofs.Walks.{size-at, place-most}
+use Rattle.state.proofs.Walks.{place-most, read-by, seen-by, sized-by}
 use Rattle.state.proofs.Marks.{Noted, noted-start, noted-turn, noted-end, place-turn, Keeps, keeps-turn, keeps-past, keeps-end, latest-past}
 use Rattle.state.proofs.Settled.{among-in}
 use Rattle.state.proofs.Views.{valid-holding}
@@ -45,16 +45,16 @@ below : (k : tie.After-record-at Inv-loop2 μ-loop2 Inv-loop μ-loop) → place 
 below k = omega arith
 
 read : (k : tie.After-record-at Inv-loop2 μ-loop2 Inv-loop μ-loop) → k .record-at .result .now ≡ recordAt (recordSize (strideOf (table k))) (place k) (table k)
-read k = k .record-at .ensures .0 ∙ ap (λ (n : ℕ). recordAt (32 + 8 * n) (place k) (table k)) (k .before .before .before .before .stride-of .ensures)
+read k = read-by (table k) (place k) (k .before .before .before .before .stride-of .ensures) (k .record-at .ensures .0)
 
 abbrev here : tie.After-record-at Inv-loop2 μ-loop2 Inv-loop μ-loop → Slice
 here k = viewOf (strideOf (table k)) (recordAt (recordSize (strideOf (table k))) (place k) (table k))
 
 seen : (k : tie.After-record-at Inv-loop2 μ-loop2 Inv-loop μ-loop) → viewOf (k .before .before .before .before .stride-of .result) (k .record-at .result .now) ≡ here k
-seen k = ap (λ (n : ℕ). viewOf n (k .record-at .result .now)) (k .before .before .before .before .stride-of .ensures) ∙ ap (viewOf (strideOf (table k))) (read k)
+seen k = seen-by (table k) (place k) (k .before .before .before .before .stride-of .ensures) (read k)
 
 sized : (k : tie.After-record-at Inv-loop2 μ-loop2 Inv-loop μ-loop) → length (k .record-at .result .now) ≡ recordSize (k .before .before .before .before .stride-of .result)
-sized k = ap length (read k) ∙ (size-at (table k) (k .before .before .before .before .before .before .pre) (place k) (below k) ∙ sym (ap recordSize (k .before .before .before .before .stride-of .ensures)))
+sized k = sized-by (table k) (place k) (k .before .before .before .before .stride-of .ensures) (read k) (k .before .before .before .before .before .before .pre) (below k)
 
 next : (k : tie.After-record-at Inv-loop2 μ-loop2 Inv-loop μ-loop) → drop (place k) (slicesOf (table k)) ≡ here k ∷ drop (place k + 1) (slicesOf (table k))
 next k = slices-at (table k) (place k) (below k) (k .before .before .before .before .before .before .pre)

@@ -1,5 +1,5 @@
 -- `state::survey::front_of` meets its contract. The loop: the tally stands for what was found so far, and each slice so far is none above BASELINE. Assumes nothing.
-use Prim.Native.Nat.{ℕ, _+_, _*_, _-_, _≤_, _<_}
+use Prim.Native.Nat.{ℕ, _+_, _-_, _≤_, _<_}
 use mathlib.Core.Path.{_≡_, refl, sym, ap, subst, _∙_}
 use mathlib.Core.List.{List, _∷_}
 use mathlib.Core.Logic.{⊎-elim}
@@ -23,6 +23,7 @@ use Rattle.state.proofs.Slices.{slices-at, slices-end, slice-at}
 use Rattle.state.proofs.Marks.{Keeps, keeps-turn, keeps-past, keeps-rest, keeps-end, tally-past, tally-turn}
 use Rattle.state.proofs.Front.{kinds-rise, none-stands}
 use Rattle.state.proofs.Views.{base-holding}
+use Rattle.state.proofs.Walks.{read-by}
 use borrow.Author.Needs.{needs}
 use Rattle.state.proofs.survey.front_of.Statement.{statement}
 use Rattle.state.proofs.survey.front_of.Tie as tie
@@ -47,7 +48,7 @@ roomy : (k : tie.After-record-at Inv-loop μ-loop) → countOf (table k) ≤ roo
 roomy k = k .before .before .before .before .before .before .pre .0
 
 read : (k : tie.After-record-at Inv-loop μ-loop) → k .record-at .result .now ≡ recordAt (recordSize (strideOf (table k))) (place k) (table k)
-read k = k .record-at .ensures .0 ∙ ap (λ (n : ℕ). recordAt (32 + 8 * n) (place k) (table k)) (k .before .before .before .before .stride-of .ensures)
+read k = read-by (table k) (place k) (k .before .before .before .before .stride-of .ensures) (k .record-at .ensures .0)
 
 abbrev here : tie.After-record-at Inv-loop μ-loop → Slice
 here k = viewOf (strideOf (table k)) (recordAt (recordSize (strideOf (table k))) (place k) (table k))

@@ -1,9 +1,8 @@
 -- `state::survey::since_of` meets its contract: the begin of the record at the place. Assumes nothing.
-use Prim.Native.Nat.{ℕ, _+_, _*_}
 use mathlib.Core.Path.{sym, ap, _∙_}
 use Rattle.slice.specs.Record.{periodOf}
-use Rattle.table.specs.Header.{recordAt}
 use Rattle.state.specs.Steps.{sinceOf}
+use Rattle.state.proofs.Walks.{read-by}
 use borrow.Author.Needs.{needs}
 use Rattle.state.proofs.survey.since_of.Statement.{statement}
 use Rattle.state.proofs.survey.since_of.Tie as tie
@@ -16,7 +15,7 @@ returns-2 : tie.Need-returns-2
 returns-2 c =
     let a = c .before .before .before .before .before .before .before .before .args in
     let i = c .before .before .before .before .before .bases .given .0 .0 in
-    ap (λ p. p .begin) (c .before .period-of .ensures ∙ ap periodOf (c .before .before .record-at .ensures .0 ∙ ap (λ (n : ℕ). recordAt (32 + 8 * n) i (a .permanent .now)) (c .before .before .before .stride-of .ensures)))
+    ap (λ p. p .begin) (c .before .period-of .ensures ∙ ap periodOf (read-by (a .permanent .now) i (c .before .before .before .stride-of .ensures) (c .before .before .record-at .ensures .0)))
     ∙ sym (ap (sinceOf (a .permanent .now)) (c .before .before .before .before .before .bases .given .1))
 
 returns-3 : tie.Need-returns-3

@@ -1,5 +1,5 @@
 -- `state::survey::survey_permanent` meets its contract. The outer loop: the tally and each mark stand for what was found so far. The inner: the parts before this one are noted. Assumes nothing.
-use Prim.Native.Nat.{ℕ, _+_, _*_, _-_, _≤_, _<_}
+use Prim.Native.Nat.{ℕ, _+_, _-_, _≤_, _<_}
 use mathlib.Core.Path.{_≡_, refl, sym, ap, subst, _∙_}
 use mathlib.Core.Bool.{Bool, true, false, _&&_}
 use mathlib.Core.List.{List, _∷_}
@@ -18,9 +18,9 @@ use Rattle.state.specs.declared.mention.Latest.{Latest}
 use Rattle.state.specs.declared.anchor.Few.{Few}
 use Rattle.state.specs.declared.anchor.Few.the-variants.{Zero}
 use Rattle.state.proofs.Slices.{slices-length, slices-at, slices-end}
-use Rattle.state.proofs.Walks.{size-at, place-most}
+use Rattle.state.proofs.Walks.{place-most, read-by, seen-by, sized-by}
 use Rattle.state.proofs.Marks.{Noted, noted-start, noted-turn, noted-wanted, pass-front, Keeps, keeps-turn, keeps-past, keeps-end, mark-turn, latest-past, tally-past, tally-turn}
-use Rattle.state.proofs.Front.{none-due, none-opens}
+use Rattle.state.proofs.Front.{none-due, none-opens, opens-told}
 use borrow.Author.Needs.{needs}
 use Rattle.state.proofs.survey.survey_permanent.Statement.{statement}
 use Rattle.state.proofs.survey.survey_permanent.Tie as tie
@@ -63,16 +63,16 @@ below : (k : tie.After-record-at Inv-loop2 μ-loop2 Inv-loop μ-loop) → place 
 below k = omega arith
 
 read : (k : tie.After-record-at Inv-loop2 μ-loop2 Inv-loop μ-loop) → k .record-at .result .now ≡ recordAt (recordSize (strideOf (table k))) (place k) (table k)
-read k = k .record-at .ensures .0 ∙ ap (λ (n : ℕ). recordAt (32 + 8 * n) (place k) (table k)) (k .before .before .before .before .before .before .before .stride-of .ensures)
+read k = read-by (table k) (place k) (k .before .before .before .before .before .before .before .stride-of .ensures) (k .record-at .ensures .0)
 
 abbrev here : tie.After-record-at Inv-loop2 μ-loop2 Inv-loop μ-loop → Slice
 here k = viewOf (strideOf (table k)) (recordAt (recordSize (strideOf (table k))) (place k) (table k))
 
 seen : (k : tie.After-record-at Inv-loop2 μ-loop2 Inv-loop μ-loop) → viewOf (k .before .before .before .before .before .before .before .stride-of .result) (k .record-at .result .now) ≡ here k
-seen k = ap (λ (n : ℕ). viewOf n (k .record-at .result .now)) (k .before .before .before .before .before .before .before .stride-of .ensures) ∙ ap (viewOf (strideOf (table k))) (read k)
+seen k = seen-by (table k) (place k) (k .before .before .before .before .before .before .before .stride-of .ensures) (read k)
 
 sized : (k : tie.After-record-at Inv-loop2 μ-loop2 Inv-loop μ-loop) → length (k .record-at .result .now) ≡ recordSize (k .before .before .before .before .before .before .before .stride-of .result)
-sized k = ap length (read k) ∙ (size-at (table k) (roomy k) (place k) (below k) ∙ sym (ap recordSize (k .before .before .before .before .before .before .before .stride-of .ensures)))
+sized k = sized-by (table k) (place k) (k .before .before .before .before .before .before .before .stride-of .ensures) (read k) (roomy k) (below k)
 
 next : (k : tie.After-record-at Inv-loop2 μ-loop2 Inv-loop μ-loop) → drop (place k) (slicesOf (table k)) ≡ here k ∷ drop (place k + 1) (slicesOf (table k))
 next k = slices-at (table k) (place k) (below k) (roomy k)
@@ -82,11 +82,6 @@ telling k q = tells q (viewOf (k .before .before .before .before .before .before
 
 told : (v : tie.After-is-due Inv-loop2 μ-loop2 Inv-loop μ-loop) → v .is-due .result ≡ due (since (v .before)) (v .before .before .before .before .before .before .before .before .before .before .args .instant) (here (v .before))
 told v = v .is-due .ensures (strideOf (table (v .before))) ∙ ap (λ r. due (since (v .before)) (v .before .before .before .before .before .before .before .before .before .before .args .instant) (viewOf (strideOf (table (v .before))) r)) (read (v .before))
-
--- one that is due opens where it tells the life begin
-opens : (since t : Instant) (d : Slice) (b : Bool) → due since t d ≡ b → opensDue since t d ≡ (b && tells 8 d)
-unfolding opensDue
-opens since t d b e = ap (λ x. x && tells 8 d) e
 
 -- past the inner loop the properties are noted, and then the life times
 all-noted : (k : tie.After-record-at Inv-loop2 μ-loop2 Inv-loop μ-loop) (n b e : Mark) (ms₀ ms₁ : List Mark) (part : ℕ) → part ≤ k .before .before .before .before .before .before .before .before .before .args .to → k .before .before .before .before .before .before .before .before .before .args .to ≤ part → length ms₁ ≡ 10
@@ -222,7 +217,7 @@ loop-again c =
       omega arith,
       ⊎-elim
           (λ x. let y : due s (a .instant) (here k) ≡ true = sym (told (c .before)) ∙ x .0 .taken in
-          let o : f (here k) ≡ x .1 .result = opens s (a .instant) (here k) true y ∙ sym (x .1 .ensures ∙ ap (tells 8) (seen k)) in (
+          let o : f (here k) ≡ x .1 .result = opens-told s (a .instant) (here k) true y ∙ sym (x .1 .ensures ∙ ap (tells 8) (seen k)) in (
             ⊎-elim
                 (λ z. keeps-turn (tallyWith f) (λ few. few) (l .openings) _ all (place k) (here k) _ _ (next k) (oneMore (place k)) (tally-turn f (place k) (here k) (o ∙ z .0 .taken)) (x .12 ∙ (z .2 ∙ z .1 .ensures)) (l .inv .1 .0))
                 (λ z. keeps-past (tallyWith f) (λ few. few) (l .openings) _ all (place k) (here k) _ _ (next k) (tally-past f (place k) (here k) (o ∙ z .0 .left)) (x .12 ∙ z .1) (l .inv .1 .0))
@@ -243,7 +238,7 @@ loop-again c =
             ),
           ))
           (λ x. let n : due s (a .instant) (here k) ≡ false = sym (told (c .before)) ∙ x .0 .left in (
-            keeps-past (tallyWith f) (λ few. few) (l .openings) _ all (place k) (here k) _ _ (next k) (tally-past f (place k) (here k) (opens s (a .instant) (here k) false n)) (x .1) (l .inv .1 .0),
+            keeps-past (tallyWith f) (λ few. few) (l .openings) _ all (place k) (here k) _ _ (next k) (tally-past f (place k) (here k) (opens-told s (a .instant) (here k) false n)) (x .1) (l .inv .1 .0),
             (
               ap (λ (z : Latest). length (z .marks)) (x .2) ∙ l .inv .1 .1 .0,
               λ q w.

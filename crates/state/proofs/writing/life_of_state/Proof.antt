@@ -1,6 +1,6 @@
 -- `state::writing::life_of_state` meets its contract: each life time of the record that tells it last. Assumes nothing.
 use Prim.Native.Nat.{ℕ, _+_, _*_, _<_}
-use mathlib.Core.Path.{_≡_, sym, ap, ap₂, _∙_}
+use mathlib.Core.Path.{_≡_, ap, ap₂, _∙_}
 use mathlib.Core.List.{List}
 use native.Mathlib.Omega.{arith}
 use lib.ListN.{length, getD}
@@ -9,8 +9,7 @@ use Rattle.slice.specs.declared.record.Life.{Life}
 use Rattle.table.specs.Header.{strideOf, recordAt}
 use Rattle.history.specs.Parts.{tells}
 use Rattle.state.specs.Steps.{nothing, originOf, lifeAt}
-use Rattle.state.proofs.Walks.{size-at, place-most}
-use borrow.Author.Needs.{needs}
+use Rattle.state.proofs.Walks.{place-most, read-by, seen-by, sized-by}
 use borrow.Author.Needs.{needs}
 use Rattle.state.proofs.writing.life_of_state.Statement.{statement}
 use Rattle.state.proofs.writing.life_of_state.Tie as tie
@@ -22,13 +21,13 @@ abbrev anchor : tie.After-record-at → List ℕ
 anchor k = recordAt (recordSize (strideOf (table k))) (k .before .before .before .args .start .place) (table k)
 
 read : (k : tie.After-record-at) → k .record-at .result .now ≡ anchor k
-read k = k .record-at .ensures .0 ∙ ap (λ (n : ℕ). recordAt (32 + 8 * n) (k .before .before .before .args .start .place) (table k)) (k .before .stride-of .ensures)
+read k = read-by (table k) (k .before .before .before .args .start .place) (k .before .stride-of .ensures) (k .record-at .ensures .0)
 
 seen : (k : tie.After-record-at) → viewOf (k .before .stride-of .result) (k .record-at .result .now) ≡ viewOf (strideOf (table k)) (anchor k)
-seen k = ap (λ (n : ℕ). viewOf n (k .record-at .result .now)) (k .before .stride-of .ensures) ∙ ap (viewOf (strideOf (table k))) (read k)
+seen k = seen-by (table k) (k .before .before .before .args .start .place) (k .before .stride-of .ensures) (read k)
 
 sized : (k : tie.After-record-at) → length (k .record-at .result .now) ≡ recordSize (k .before .stride-of .result)
-sized k = ap length (read k) ∙ (size-at (table k) (k .before .before .before .pre .1 .0) (k .before .before .before .args .start .place) (k .before .before .before .pre .1 .1) ∙ sym (ap recordSize (k .before .stride-of .ensures)))
+sized k = sized-by (table k) (k .before .before .before .args .start .place) (k .before .stride-of .ensures) (read k) (k .before .before .before .pre .1 .0) (k .before .before .before .pre .1 .1)
 
 small : (k : tie.After-record-at) → k .before .before .before .args .start .place < 256
 small k = place-most (table k) (k .before .before .before .pre .1 .0) (k .before .before .before .args .start .place) (k .before .before .before .pre .1 .1)
