@@ -3,5 +3,10 @@ pub mod Orders
 pub mod Parts
 pub mod Line
 pub mod Latest
+pub mod Kept
+pub mod Changes
 pub mod Periods
 pub mod Reach
+pub mod Steady
+pub mod ReadBack
+pub mod Again

@@ -3,14 +3,18 @@
 use Prim.Native.Nat.{ℕ}
 use mathlib.Core.Path.{_≡_, refl}
 use mathlib.Core.List.{List, [], _∷_}
-use mathlib.Core.Bool.{Bool, true, false, cond}
+use mathlib.Core.Bool.{Bool, true, false, cond, _&&_}
 use mathlib.Core.Logic.{_⊎_, inl, inr, ⊎-elim}
 use native.Mathlib.Omega.{arith}
 use Rattle.laws.specs.Lists.{kept}
 use Rattle.laws.specs.Keyed.{In}
+use Rattle.laws.proofs.Tests.{and-both}
 use Rattle.laws.proofs.Lists.{kept-in}
+use Rattle.numbers.specs.Numbers.{given, atMost}
 use Rattle.numbers.specs.declared.Instant.{Instant}
-use Rattle.slice.specs.Record.{Property, unmentioned, says, Slice}
+use Rattle.slice.specs.Record.{baseline, permdelta, Property, unmentioned, says, Slice}
+use Rattle.history.specs.Counted.{counts, holds}
+use Rattle.history.specs.Period.{until}
 use Rattle.history.specs.Anchor.{stands, opens, Anchor, based, opened, nowhere, two, only, anchor}
 use Rattle.history.specs.State.{State, started, newer, over, applied, appliedAll}
 use Rattle.history.specs.Permanent.{following, refuses, known, withdrawn, unlessWithdrawn, reached, standingFrom, permanentAt}
@@ -18,9 +22,10 @@ use Rattle.history.specs.Source.{lineFrom, line}
 use Rattle.history.proofs.Parts.{following-in}
 
 -- ---- the slices of the line are there
-abbrev Within : List Slice → Anchor → Type 0
-Within slices (based b) = In b slices
-Within slices (opened o) = In o slices
+-- an anchor's slice is there and counts
+abbrev pub Within : List Slice → Anchor → Type 0
+Within slices (based b) = In b slices × (counts baseline b ≡ true)
+Within slices (opened o) = In o slices × (counts permdelta o ≡ true)
 Within slices nowhere = Unit {0}
 Within slices two = Unit {0}
 
@@ -31,20 +36,23 @@ only-within slices at otherwise (x ∷ []) f w = f x (inl refl)
 only-within slices at otherwise (x ∷ y ∷ xs) f w = tt
 
 module _ (t : Instant) (slices : List Slice) where
-  anchor-within : Within slices (anchor t slices)
-  unfolding anchor
+  pub anchor-within : Within slices (anchor t slices)
+  unfolding anchor stands opens
   anchor-within =
-      only-within slices based (only opened nowhere (kept (opens t) slices)) (kept (stands slices t) slices) (λ x m. kept-in (stands slices t) slices x .0 m .0)
-      (only-within slices opened nowhere (kept (opens t) slices) (λ x m. kept-in (opens t) slices x .0 m .0) tt)
+      only-within slices based (only opened nowhere (kept (opens t) slices)) (kept (stands slices t) slices)
+      (λ b m. let (i, y) = kept-in (stands slices t) slices b .0 m in (i, and-both (counts baseline b) (holds t (b .period .begin) (until slices b)) y .0))
+      (only-within slices opened nowhere (kept (opens t) slices)
+      (λ o m. let (i, y) = kept-in (opens t) slices o .0 m in (i, and-both (counts permdelta o) (given (o .life .begin) && atMost (o .period .begin) t) y .0))
+      tt)
 
   pub line-in : (d : Slice) → In d (line t slices) → In d slices
   unfolding line
   line-in d = go (anchor t slices) anchor-within
     where
       go : (a : Anchor) → Within slices a → In d (lineFrom t slices a) → In d slices
-      go (based b) w (inl e) = rw e w
+      go (based b) w (inl e) = rw e (w .0)
       go (based b) w (inr m) = following-in t slices (based b) d m .0
-      go (opened o) w (inl e) = rw e w
+      go (opened o) w (inl e) = rw e (w .0)
       go (opened o) w (inr m) = following-in t slices (opened o) d m .0
       go nowhere w m = absurd m
       go two w m = absurd m
@@ -53,7 +61,7 @@ module _ (t : Instant) (slices : List Slice) where
 pub known-apart : (n : ℕ) (s : State) → refuses n ≡ known s → ⊥
 known-apart n s e = let z : _≡_ {A = ℕ} 0 1 = cc in omega arith
 
-known-same : (b : Bool) (s s' : State) → cond b (refuses 22) (known s') ≡ known s → s ≡ s'
+pub known-same : (b : Bool) (s s' : State) → cond b (refuses 22) (known s') ≡ known s → s ≡ s'
 known-same true s s' e = cc
 known-same false s s' e = cc
 

@@ -1,5 +1,5 @@
--- The two orders in which slices apply, by turn and by sequence number, are strict and total; in a table each order tells the
--- counted slices of a kind apart. Assumes nothing.
+-- The two orders in which slices apply, by turn and by sequence number, are strict and total, and so is that of instants; in a table
+-- each of the two tells the counted slices of a kind apart. Assumes nothing.
 use Prim.Native.Nat.{ℕ}
 use mathlib.Core.Path.{_≡_, sym, ap, _∙_}
 use mathlib.Core.List.{List}
@@ -11,7 +11,8 @@ use Rattle.laws.proofs.Tests.{tests, and-both}
 use Rattle.laws.proofs.Orders.{lex-irrefl, lex-trans, lex-total}
 use Rattle.laws.proofs.Places.{KeyOrder}
 use Rattle.laws.proofs.Put.{rising-one}
-use Rattle.numbers.specs.Numbers.{sameInstant, lowerSequence, sameSequence}
+use Rattle.numbers.specs.Numbers.{before, sameInstant, lowerSequence, sameSequence}
+use Rattle.numbers.specs.declared.Instant.{Instant}
 use Rattle.numbers.specs.declared.SequenceNumber.{SequenceNumber}
 use Rattle.slice.specs.Record.{keyLess, sameKey, Slice}
 use Rattle.slice.proofs.Keys.{key-order}
@@ -43,6 +44,19 @@ sequence-order = record {
   trans = λ a b c p q. omega tests;
   total = λ a b p q. sequence-of a b (omega tests);
   told = λ a b h. sequence-of a b (omega tests);
+  tells = λ a b e. eq-eqb (a .0) (b .0) (ap (λ k. k .0) e);
+}
+
+pub instant-of : (a b : Instant) → a .0 ≡ b .0 → a ≡ b
+instant-of a b p i = record { 0 = p i }
+
+pub instant-order : KeyOrder before sameInstant
+unfolding before sameInstant
+instant-order = record {
+  irrefl = λ a h. omega tests;
+  trans = λ a b c p q. omega tests;
+  total = λ a b p q. instant-of a b (omega tests);
+  told = λ a b h. instant-of a b (omega tests);
   tells = λ a b e. eq-eqb (a .0) (b .0) (ap (λ k. k .0) e);
 }
 

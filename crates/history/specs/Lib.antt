@@ -7,3 +7,6 @@ pub mod Snapshot
 pub mod Source
 pub mod Reach
 pub mod Parts
+pub mod Changes
+pub mod Derived
+pub mod Soonest
