@@ -5,7 +5,9 @@ use Rattle.laws.specs.OneAnswer.{OneAnswer}
 use Rattle.laws.specs.OneAnswer.{OneAnswerAs, shown}
 use Rattle.laws.proofs.OneAnswer.{same, both}
 use Rattle.state.proofs.answer.permanent_state.Kinds as permanent-state-k
+use Rattle.state.proofs.answer.state_at.Kinds as state-at-k
 use Rattle.state.proofs.answer.permanent_state.Reads as permanent-state
+use Rattle.state.proofs.answer.state_at.Reads as state-at
 use Rattle.state.proofs.answer.snapshot.Kinds as snapshot-k
 use Rattle.state.proofs.answer.snapshot.Reads as snapshot
 use Rattle.state.proofs.question.locate.Kinds as locate-k
@@ -17,6 +19,9 @@ use Rattle.state.proofs.question.property.Reads as property
 
 pub permanent-state-one : OneAnswer permanent-state-k.ps permanent-state-k.r permanent-state.Asked permanent-state.Learnt
 permanent-state-one κs a = (tt, λ z z' ws ws' p q. (same (p .0) (q .0), both refl (both refl (both (same (rw (p .0) at (p .1)) (rw (q .0) at (q .1))) refl))))
+
+pub state-at-one : OneAnswer state-at-k.ps state-at-k.r state-at.Asked state-at.Learnt
+state-at-one κs a = (tt, λ z z' ws ws' p q. (same (p .0) (q .0), both refl (both refl (both (same (rw (p .0) at (p .1)) (rw (q .0) at (q .1))) refl))))
 
 pub snapshot-one : OneAnswer snapshot-k.ps snapshot-k.r snapshot.Asked snapshot.Learnt
 snapshot-one κs a = (tt, λ z z' ws ws' p q. (same (p .0) (q .0), both refl (both refl (both refl (both (same (rw (p .0) at (p .1)) (rw (q .0) at (q .1))) refl)))))

@@ -17,12 +17,12 @@ use Rattle.slice.specs.declared.check.Refusal.{Refusal}
 use Rattle.slice.specs.declared.check.Checked.the-variants.{Sound, Refused}
 use Rattle.slice.proofs.Sound.{refused-apart, refused-tells}
 use Rattle.table.specs.Header.{featureOf, strideOf}
-use Rattle.table.specs.Rules.{tableTests, checkTable}
+use Rattle.table.specs.Rules.{tableTests, checkTable, orderTests, checkOrder}
 use Rattle.table.specs.declared.check.Sides.the-variants as sides
 use Rattle.history.specs.Permanent.{Standing, permanentAt}
 use Rattle.history.specs.Snapshot.{snapshotAt}
-use Rattle.state.specs.Asking.{slicesOf, permanentTests, bothTests, checkBoth, misfits, writingTests, askingTests, refusedOutcome, outcomeOf, permanentStateOf, snapshotOf, refusedPlace, placeAt, placeOf}
-use Rattle.state.specs.declared.answer.Outcome.{Outcome}
+use Rattle.state.specs.Asking.{slicesOf, permanentTests, bothTests, checkBoth, misfits, writingTests, askingTests, refusedOutcome, outcomeOf, permanentStateOf, stateAtOf, snapshotOf, refusedPlace, placeAt, placeOf}
+use Rattle.state.specs.Steps.{leftOf}
 use Rattle.state.specs.declared.answer.Outcome.the-variants as outcome
 use Rattle.state.specs.declared.question.Place.the-variants as place
 use Rattle.state.proofs.Placed.{tests-sound}
@@ -69,10 +69,6 @@ both-sound p t e =
     (tests-sound sides.Permanent p (q .0), tests-sound sides.Temporary t (r .0))
 
 -- ---- a question that writes a record, behind the check of its tables
--- what is left: 19, 23, and the standing
-abbrev pub leftOf : List ℕ → Instant → List ℕ → Standing → Outcome
-leftOf p at buffer s = refuse refusedOutcome (writingTests p at buffer) (outcomeOf s)
-
 module _ (p : List ℕ) (at : Instant) (buffer : List ℕ) where
   pub state-refused : (f : Refusal) → checkTable sides.Permanent p ≡ Refused f → outcome.Refused f ≡ permanentStateOf p at buffer
   unfolding permanentStateOf permanentTests checkTable
@@ -81,6 +77,14 @@ module _ (p : List ℕ) (at : Instant) (buffer : List ℕ) where
   pub state-left : checkTable sides.Permanent p ≡ Sound → leftOf p at buffer (permanentAt at (slicesOf p)) ≡ permanentStateOf p at buffer
   unfolding permanentStateOf permanentTests checkTable
   state-left e = sym (check-passes refusedOutcome (tableTests (strideOf p) sides.Permanent p) (writingTests p at buffer) _ e)
+
+  pub order-refused : (f : Refusal) → checkOrder p ≡ Refused f → outcome.Refused f ≡ stateAtOf p at buffer
+  unfolding stateAtOf checkOrder
+  order-refused f e = sym (check-refuses refusedOutcome (orderTests (strideOf p) p) (writingTests p at buffer) _ f e)
+
+  pub order-left : checkOrder p ≡ Sound → leftOf p at buffer (permanentAt at (slicesOf p)) ≡ stateAtOf p at buffer
+  unfolding stateAtOf checkOrder
+  order-left e = sym (check-passes refusedOutcome (orderTests (strideOf p) p) (writingTests p at buffer) _ e)
 
   module _ (t : List ℕ) where
     pub snapshot-refused : (f : Refusal) → checkBoth p t ≡ Refused f → outcome.Refused f ≡ snapshotOf p t at buffer

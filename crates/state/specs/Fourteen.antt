@@ -107,10 +107,10 @@ reply ss (snapshot n i) = snapped n (table permanent ss) (table temporary ss) (r
 reply ss (property n i) = stands (placeOf (table permanent ss) (table temporary ss) (record { 0 = i }) n)
 reply ss (arrives s) = answers (arrivalOf (table temporary ss) s)
 
-abbrev answer : Case → List Answer
+abbrev pub answer : Case → List Answer
 answer c = map (reply (c .sent)) (c .asked)
 
-abbrev cases : List Case
+abbrev pub cases : List Case
 cases =
     case [] (at 100 ∷ [])  -- 1
     ∷ case (B 1 100 200 1 ∷ []) (at 99 ∷ at 100 ∷ at 199 ∷ at 200 ∷ [])  -- 2
@@ -129,8 +129,10 @@ cases =
     ∷ case (B1 ∷ slice′ tempdelta 0 0 1 120 none none none unknown missing ∷ []) (at 120 ∷ [])  -- 14
     ∷ []
 
-pub fourteen : map answer cases
-    ≡ (refuses 20 ∷ [])  -- 1
+-- what they answer
+abbrev pub wanted : List (List Answer)
+wanted =
+    (refuses 20 ∷ [])  -- 1
     ∷ (refuses 20 ∷ gives 1 ∷ gives 1 ∷ refuses 20 ∷ [])  -- 2
     ∷ (gives 1 ∷ gives 2 ∷ [])  -- 3
     ∷ (gives 1 ∷ [])  -- 4
@@ -146,5 +148,7 @@ pub fourteen : map answer cases
     ∷ (gives 3 ∷ stands Unmentioned ∷ shows unknown ∷ [])  -- 13
     ∷ (shows unknown ∷ [])  -- 14
     ∷ []
+
+pub fourteen : map answer cases ≡ wanted
 unfolding asking arriving
 fourteen = refl

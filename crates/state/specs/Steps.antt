@@ -6,6 +6,7 @@ use mathlib.Core.Option.{Option, none, some}
 use lib.ListN.{getD, take, drop}
 use lib.Dec.{ltb, leb, eqb}
 use Rattle.laws.specs.Orders.{lexLess}
+use Rattle.laws.specs.Refusals.{refuse}
 use Rattle.numbers.specs.Numbers as numbers
 use Rattle.numbers.specs.Numbers.{given, before, atMost}
 use Rattle.numbers.specs.declared.Instant.{Instant}
@@ -14,7 +15,10 @@ use Rattle.slice.specs.Record.{recordSize, periodOf, lifeOf, sequenceOf, Slice,
 use Rattle.table.specs.Header.{strideOf, recordAt}
 use Rattle.history.specs.Counted.{counts, holds}
 use Rattle.history.specs.Parts.{tells, Placed, passFrom}
+use Rattle.history.specs.Permanent as State
 use Rattle.state.specs.Written.{nilUnknown}
+use Rattle.state.specs.Asking.{writingTests, refusedOutcome, outcomeOf}
+use Rattle.state.specs.declared.answer.Outcome.{Outcome}
 use Rattle.state.specs.declared.mention.Mark.{Mark}
 use Rattle.state.specs.declared.question.Place.{Place}
 use Rattle.state.specs.declared.question.Place.the-variants as place
@@ -23,6 +27,11 @@ use Rattle.state.specs.declared.anchor.Few.the-variants.{Zero, One, More
 use Rattle.state.specs.declared.anchor.Start.{Start}
 use Rattle.state.specs.declared.anchor.Standing.{Standing}
 use Rattle.state.specs.declared.anchor.Standing.the-variants.{From, Refused}
+
+-- ---- a question that writes a record
+-- behind the check of its tables: 19, 23, and then the standing
+abbrev pub leftOf : List ℕ → Instant → List ℕ → State.Standing → Outcome
+leftOf p at buffer s = refuse refusedOutcome (writingTests p at buffer) (outcomeOf s)
 
 -- ---- mentions
 -- no mention yet

@@ -11,6 +11,7 @@ mod writing;
 pub use answer::Outcome;
 pub use answer::permanent_state;
 pub use answer::snapshot;
+pub use answer::state_at;
 pub use question::Place;
 pub use question::Source;
 pub use question::locate;

@@ -16,7 +16,7 @@ use Rattle.slice.specs.declared.check.Refusal.{Refusal}
 use Rattle.slice.specs.declared.check.Checked.the-variants.{Sound, Refused}
 use Rattle.slice.proofs.Sound.{refused-apart, refused-tells}
 use Rattle.table.specs.Header.{lettered, sideOf, versionOf, countOf, featureOf, strideOf, roomOf, recordsOf}
-use Rattle.table.specs.Rules.{takes, fails, inOrder, tableTests, checkTable}
+use Rattle.table.specs.Rules.{takes, fails, inOrder, tableTests, checkTable, orderTests, checkOrder}
 use Rattle.table.specs.Arriving.{refusedArrival, recordOf, filingOf, arrivalOf}
 use Rattle.table.specs.declared.check.Sides.{Sides}
 use Rattle.table.specs.declared.check.Sides.the-variants.{Both}
@@ -56,6 +56,18 @@ module _ (sides : Sides) (t : List ℕ) where
   table-sound h =
       answer-given refused Sound (tableTests (strideOf t) sides t)
       (le-ltb _ _ (h .headed), (rw (h .letters, h .side), (ap not (eq-eqb _ _ (h .version)), (ap not (h .reserved), (le-ltb _ _ (h .roomy), (h .sound, (ap not (h .rising), tt)))))))
+
+  -- 5 and 7 alone
+  pub sound-order : SoundTable (strideOf t) sides t → checkOrder t ≡ Sound
+  unfolding checkOrder orderTests
+  sound-order h = answer-given refused Sound (orderTests (strideOf t) t) (le-ltb _ _ (h .roomy), (ap not (h .rising), tt))
+
+pub order-sound : (t : List ℕ) → checkOrder t ≡ Sound
+    → (countOf t ≤ roomOf (recordSize (strideOf t)) t) × (inOrder (recordsOf (recordSize (strideOf t)) t) ≡ true)
+unfolding checkOrder orderTests
+order-sound t e =
+    let p = given-passed refused Sound refused-apart (orderTests (strideOf t) t) e in
+    (ltb-false _ _ (p .0), not-false _ (p .1 .0))
 
 -- a table is refused with the number of the first test that it fails, and with no other
 module _ (sides : Sides) (t : List ℕ) (n : ℕ) where

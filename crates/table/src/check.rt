@@ -3,7 +3,7 @@ ghost use mathlib.Core.Path.{_≡_};
 ghost use Prim.Native.Nat.{_≤_};
 ghost use Rattle.slice.specs.Record.{recordSize};
 ghost use Rattle.table.specs.Header.{countOf, roomOf, recordsOf};
-ghost use Rattle.table.specs.Rules.{takes, failing, inOrder, checkTable};
+ghost use Rattle.table.specs.Rules.{takes, failing, inOrder, checkTable, checkOrder};
 use crate::header::count_of;
 use crate::header::is_lettered;
 use crate::header::record_at;
@@ -104,6 +104,22 @@ pub fn check_table(table: &[u8], sides: Sides) -> Checked
         return Checked::Refused(Refusal { number: 6 });
     };
     if !is_in_order(table, size, count) {
+        return Checked::Refused(Refusal { number: 7 });
+    }
+    Checked::Sound
+}
+
+// Rules 5 and 7 alone, by which a walk over the records of a table goes: for one whose records were
+// checked before.
+pub fn check_order(table: &[u8]) -> Checked
+    ensures { λ r. ⌜ r ≡ checkOrder (now (table .entry)) ⌝ }
+{
+    let size = 32 + 8 * stride_of(table);
+    let counted = count_of(table) as usize;
+    if room_of(table, size) < counted {
+        return Checked::Refused(Refusal { number: 5 });
+    }
+    if !is_in_order(table, size, counted) {
         return Checked::Refused(Refusal { number: 7 });
     }
     Checked::Sound

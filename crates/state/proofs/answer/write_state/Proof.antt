@@ -1,0 +1,136 @@
+-- `state::answer::write_state` meets its contract: past the tests, the survey settles the standing, and what is written is the state's record. Assumes nothing.
+use Prim.Native.Nat.{ℕ}
+use mathlib.Core.Path.{_≡_, refl, sym, ap, subst, _∙_}
+use mathlib.Core.Bool.{true}
+use mathlib.Core.List.{List}
+use native.Mathlib.Omega.{arith}
+use lib.ListN.{length, getD, replicate, getD-replicate}
+use Rattle.numbers.specs.declared.Instant.{Instant}
+use Rattle.slice.specs.Record.{recordSize}
+use Rattle.table.specs.Header.{strideOf}
+use Rattle.history.specs.Anchor.{stands}
+use Rattle.history.specs.Permanent.{Standing, permanentAt}
+use Rattle.history.specs.Parts.{opensDue, latestDue}
+use Rattle.state.specs.Asking.{slicesOf, outcomeOf, recordOf}
+use Rattle.state.specs.Steps.{leftOf, nothing, wanted, markDue, sinceOf}
+use Rattle.state.proofs.Settled.{few-below, wanted-in, wanted-end, known-due, Begun, Settled, settled}
+use Rattle.state.proofs.Filled.{state-filled}
+use Rattle.state.proofs.Stages.{left-none, left-misfit, left-asked}
+use borrow.Author.Needs.{needs}
+use Rattle.state.proofs.answer.write_state.Statement.{statement}
+use Rattle.state.proofs.answer.write_state.Tie as tie
+
+abbrev start : tie.Else2 → tie.Start
+start c = c .before .before .before .before .before .before
+
+abbrev table : tie.Start → List ℕ
+table s = s .args .permanent .now
+
+abbrev standing : tie.Start → Standing
+standing s = permanentAt (s .args .instant) (slicesOf (table s))
+
+-- 19 and 23 are past
+fits : (c : tie.Else2) → length (start c .args .«record» .now) ≡ recordSize (strideOf (table (start c)))
+fits c = c .if2 .left ∙ ap recordSize (c .before .stride-of .ensures)
+
+asked : (c : tie.Else2) → let s = start c in outcomeOf (standing s) ≡ leftOf (table s) (s .args .instant) (s .args .«record» .now) (standing s)
+asked c = left-asked _ _ _ (standing (start c)) (sym (c .before .before .before .is-none .ensures) ∙ c .before .before .if1 .left) (fits c)
+
+-- what was settled
+abbrev since : tie.After-survey-permanent → Instant
+since c = sinceOf (table (start (c .before))) (c .survey-permanent .result .bases)
+
+marked : (c : tie.After-survey-permanent) (q : ℕ) → let s = start (c .before) in wanted 0 8 q ≡ true
+    → getD (c .survey-permanent .result .latest .marks) q nothing ≡ markDue (latestDue q (since c) (s .args .instant) (slicesOf (table s)))
+marked c = c .survey-permanent .ensures .1 .1 .1
+
+stood : (c : tie.After-settle) → let s = start (c .before .before) in Settled (since (c .before)) (s .args .instant) (table s) (c .settle .result)
+stood c =
+    let v = c .before .survey-permanent in
+    let s = start (c .before .before) in
+    subst (Settled (since (c .before)) (s .args .instant) (table s)) (sym (c .settle .ensures))
+    (settled (s .args .instant) (table s) (s .pre .0) (s .pre .1) (v .result .bases) (v .result .openings) (v .result .latest .marks) (v .ensures .0) (v .ensures .1 .0) (marked (c .before) 9 (wanted-end 0 8)))
+
+begun : (c : tie.After-start) → let k = c .before .before .before in let s = start (k .before) in Begun (since k) (s .args .instant) (table s) (c .start .given .0 .0)
+begun c =
+    let k = c .before .before .before in
+    let s = start (k .before) in
+    subst (Settled (since k) (s .args .instant) (table s)) (c .start .given .1) (stood (c .before .before))
+
+returns : tie.Need-returns
+returns c = (left-none _ _ _ (standing (c .before .before .before .before)) (sym (c .before .is-none .ensures) ∙ c .if1 .taken), refl)
+
+returns-2 : tie.Need-returns-2
+returns-2 c =
+    let s = c .before .before .before .before .before .before in
+    (left-misfit _ _ _ (standing s) (sym (c .before .before .before .is-none .ensures) ∙ c .before .before .if1 .left) (λ e. c .if2 .taken (e ∙ sym (ap recordSize (c .before .stride-of .ensures)))), refl)
+
+survey-permanent-requires : tie.Need-survey-permanent-requires
+survey-permanent-requires c κs = let s = start c in (s .pre .0, (s .pre .1, (omega arith, omega arith)))
+
+settle-requires : tie.Need-settle-requires
+settle-requires c κs =
+    let v = c .survey-permanent in
+    let s = start (c .before) in
+    (v .ensures .1 .1 .0, (s .pre .0, (rw (v .ensures .0) (few-below (stands (slicesOf (table s)) (s .args .instant)) (table s)), rw (v .ensures .1 .0) (few-below (opensDue (since c) (s .args .instant)) (table s)))))
+
+put-state-requires : tie.Need-put-state-requires
+put-state-requires c κs =
+    let k = c .before .before .before .before .before .before in
+    let s = start (k .before) in
+    let r = s .pre .0 in (
+      fits (k .before),
+      (
+        r,
+        (
+          r,
+          (
+            begun (c .before .before .before) .place,
+            (
+              k .survey-permanent .ensures .1 .1 .0,
+              (
+                refl,
+                (λ q h. known-due (since k) (s .args .instant) (table s) r q _ (marked k q (wanted-in 0 8 q (omega arith) (omega arith))), λ q h. rw (getD-replicate {A = ℕ} 8 q 0 0 h) (omega arith)),
+              ),
+            ),
+          ),
+        ),
+      ),
+    )
+
+returns-3 : tie.Need-returns-3
+returns-3 c =
+    let k = c .before .before .before .before in
+    let s = start (k .before) in
+    let stands = subst (Settled (since k) (s .args .instant) (table s)) (c .before .refusal .given .1) (stood (c .before .before .before)) in
+    (sym (ap outcomeOf stands) ∙ asked (k .before), refl)
+
+returns-4 : tie.Need-returns-4
+returns-4 c =
+    let k = c .before .before .before .before .before .before .before .before .before in
+    let s = start (k .before) in
+    let b = begun (c .before .before .before .before .before .before) in (
+      sym (ap outcomeOf (b .state)) ∙ asked (k .before),
+      c .before .before .put-state .ensures
+          ∙ (state-filled (since k) (s .args .instant) (table s) (s .pre .0) (s .pre .1) _ b (k .survey-permanent .result .latest .marks) (marked k) (table s) (replicate {A = ℕ} 8 0) (λ q h. getD-replicate {A = ℕ} 8 q 0 0 h)
+          ∙ sym (ap (λ (v : Standing). recordOf (strideOf (table s)) (s .args .instant) v (s .args .«record» .now)) (b .state))),
+    )
+
+pub write-state-spec : {M : Type 1} → statement M
+write-state-spec =
+    tie.close
+    (tie.spec
+    (λ c κs. search needs)
+    returns
+    (λ c κs. search needs)
+    (λ c. search needs)
+    (λ c. search needs)
+    returns-2
+    survey-permanent-requires
+    settle-requires
+    (λ c. search needs)
+    (λ c. search needs)
+    put-state-requires
+    returns-3
+    (λ c. search needs)
+    returns-4)
