@@ -1,0 +1,85 @@
+-- The derivation, test by test: what is left to answer behind each. Assumes nothing.
+use Prim.Native.Nat.{ℕ, _≤_, _<_}
+use mathlib.Core.Path.{_≡_, refl, sym, ap, _∙_}
+use mathlib.Core.Bool.{Bool, true, false, not, cond, true≢false}
+use mathlib.Core.List.{List}
+use lib.ListN.{length}
+use borrow.Author.Tests.{lt-ltb, le-ltb}
+use Rattle.laws.specs.Lists.{any}
+use Rattle.laws.specs.Refusals.{refuse}
+use Rattle.slice.specs.Record.{permanent}
+use Rattle.slice.specs.declared.check.Refusal.{Refusal}
+use Rattle.slice.specs.declared.check.Checked.the-variants.{Sound, Refused}
+use Rattle.table.specs.Header.{strideOf}
+use Rattle.table.specs.Rules.{fails, tableTests, checkTable}
+use Rattle.table.specs.declared.check.Sides.the-variants as sides
+use Rattle.history.specs.Derived.{twoAnchors}
+use Rattle.state.specs.Asking.{slicesOf, permanentTests}
+use Rattle.state.proofs.Stages.{check-refuses, check-passes}
+use Rattle.baselines.specs.Deriving.{derivedRecords, derivingTests, refusedDerivation, derivationOf}
+use Rattle.baselines.specs.Steps.{drawnOf, handedOf}
+use Rattle.baselines.specs.declared.derivation.Derivation.the-variants as derivation
+use Rattle.baselines.specs.declared.drawing.Drawn.{Drawn}
+use Rattle.baselines.specs.declared.drawing.Drawn.the-variants.{Two, Records}
+
+-- ---- what the walk tells
+abbrev isTwo : Drawn → Bool
+isTwo Two = true
+isTwo (Records n s) = false
+
+abbrev countIn : Drawn → ℕ
+countIn Two = 0
+countIn (Records n s) = n
+
+abbrev soundIn : Drawn → Bool
+soundIn Two = false
+soundIn (Records n s) = s
+
+drawn-two : (b : Bool) (m : ℕ) (t : Bool) → cond b Two (Records m t) ≡ Two → b ≡ true
+drawn-two true m t e = refl
+drawn-two false m t e = absurd (true≢false (sym (ap isTwo e)))
+
+drawn-records : (b : Bool) (m : ℕ) (t : Bool) (n : ℕ) (s : Bool) → cond b Two (Records m t) ≡ Records n s → (b ≡ false) × (n ≡ m) × (s ≡ t)
+drawn-records true m t n s e = absurd (true≢false (ap isTwo e))
+drawn-records false m t n s e = (refl, sym (ap countIn e), sym (ap soundIn e))
+
+module _ (p : List ℕ) where
+  abbrev unsound : Bool
+  unsound = any (fails (strideOf p) permanent) (derivedRecords p)
+
+  pub told-two : drawnOf p ≡ Two → twoAnchors (slicesOf p) ≡ true
+  unfolding drawnOf
+  told-two = drawn-two (twoAnchors (slicesOf p)) (length (derivedRecords p)) (not unsound)
+
+  pub told-records : (n : ℕ) (s : Bool) → drawnOf p ≡ Records n s → (twoAnchors (slicesOf p) ≡ false) × (n ≡ length (derivedRecords p)) × (s ≡ not unsound)
+  unfolding drawnOf
+  told-records = drawn-records (twoAnchors (slicesOf p)) (length (derivedRecords p)) (not unsound)
+
+-- ---- the tests in their order
+module _ (p output : List ℕ) where
+  pub table-refused : (f : Refusal) → checkTable sides.Permanent p ≡ Refused f → derivation.Refused f ≡ derivationOf p output
+  unfolding derivationOf permanentTests checkTable
+  table-refused f e = sym (check-refuses refusedDerivation (tableTests (strideOf p) sides.Permanent p) (derivingTests p output) _ f e)
+
+  module _ (e : checkTable sides.Permanent p ≡ Sound) where
+    left : derivationOf p output ≡ refuse refusedDerivation (derivingTests p output) (derivation.Derived (length (derivedRecords p)))
+    unfolding derivationOf permanentTests checkTable
+    left = check-passes refusedDerivation (tableTests (strideOf p) sides.Permanent p) (derivingTests p output) _ e
+
+    pub two-refused : twoAnchors (slicesOf p) ≡ true → refusedDerivation 21 ≡ derivationOf p output
+    unfolding derivingTests
+    two-refused t = sym (left ∙ rw t)
+
+    module _ (one : twoAnchors (slicesOf p) ≡ false) where
+      pub unsound-refused : unsound p ≡ true → refusedDerivation 24 ≡ derivationOf p output
+      unfolding derivingTests
+      unsound-refused u = sym (left ∙ rw (one, u))
+
+      module _ (sound : unsound p ≡ false) where
+        pub many-refused : 256 < length (derivedRecords p) → refusedDerivation 23 ≡ derivationOf p output
+        unfolding derivingTests
+        many-refused h = sym (left ∙ rw (one, sound, lt-ltb _ _ h))
+
+        pub few-left : length (derivedRecords p) ≤ 256 → handedOf p output ≡ derivationOf p output
+        unfolding derivingTests handedOf
+        few-left h = sym (left ∙ rw (one, sound, le-ltb _ _ h))

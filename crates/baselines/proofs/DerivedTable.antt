@@ -1,0 +1,164 @@
+-- The derived table: what an answer with a number tells; that the table is sound, names the same feature, counts its records, and says the
+-- derived baselines. Assumes nothing.
+use Prim.Native.Nat.{ℕ, _+_, _*_, _≤_, _<_}
+use mathlib.Core.Path.{_≡_, refl, sym, ap, _∙_}
+use mathlib.Core.List.{List, _++_, map}
+use mathlib.Core.Bool.{true, false, true≢false, Bool}
+use native.Mathlib.Omega.{arith}
+use lib.ListN.{length}
+use lib.Dec.{ltb}
+use borrow.Author.Tests.{ltb-false, le-ltb}
+use Rattle.laws.specs.Lists.{any, joined}
+use Rattle.laws.specs.Keyed.{In}
+use Rattle.laws.proofs.Tests.{or-neither}
+use Rattle.laws.proofs.Pieces.{Sized, joined-length}
+use Rattle.laws.proofs.Refusals.{passed-split, passed-answer}
+use Rattle.octets.proofs.Runs.{Bytes}
+use Rattle.slice.specs.Record.{permanent, recordSize, viewOf}
+use Rattle.slice.specs.declared.check.Checked.the-variants.{Sound}
+use Rattle.table.specs.Header.{countOf, featureOf, strideOf, roomOf, recordsOf, written}
+use Rattle.table.specs.Rules.{takes, fails, checkTable}
+use Rattle.table.specs.Arriving.{creationOf}
+use Rattle.table.specs.Deliveries.{holding}
+use Rattle.table.specs.declared.check.Sides.the-variants.{Permanent, Both}
+use Rattle.table.specs.declared.create.Creation.the-variants.{Made}
+use Rattle.table.proofs.Made.{made}
+use Rattle.table.proofs.Sound.{SoundTable, sound-table, table-sound}
+use Rattle.table.proofs.Stays.{Good, all-good, good-sized, within, stays}
+use Rattle.table.proofs.Kept.{Alike, same-side, same-feature, same-room, written-alike, written-count, written-records}
+use Rattle.table.proofs.Delivered.{new, new-feature, new-room, new-written, new-sound}
+use Rattle.history.specs.Derived.{twoAnchors, derivedBaselines}
+use Rattle.state.specs.Written.{nilUnknown}
+use Rattle.state.specs.Asking.{slicesOf, permanentTests}
+use Rattle.state.proofs.Placed.{tests-sound}
+use Rattle.baselines.specs.Deriving.{derivedRecords, derivingTests, refusedDerivation, derivationOf}
+use Rattle.baselines.specs.Steps.{handedOf}
+use Rattle.baselines.specs.declared.derivation.Derivation.{Derivation}
+use Rattle.baselines.specs.declared.derivation.Derivation.the-variants.{Derived, Refused}
+use Rattle.baselines.proofs.Pasted.{feature-long}
+use Rattle.baselines.proofs.Decided.{few-left}
+use Rattle.baselines.proofs.Right.{derived-views, derived-up}
+
+abbrev numberIn : Derivation → ℕ
+numberIn (Derived n) = n
+numberIn (Refused f) = 0
+
+abbrev isDerived : Derivation → Bool
+isDerived (Derived n) = true
+isDerived (Refused f) = false
+
+-- a derivation that is not refused
+pub record Deriving (p output : List ℕ) (n : ℕ) : Type 0 where
+  pub table : checkTable Permanent p ≡ Sound
+  pub one : twoAnchors (slicesOf p) ≡ false
+  pub sound : any (fails (strideOf p) permanent) (derivedRecords p) ≡ false
+  pub number : n ≡ length (derivedRecords p)
+  pub few : length (derivedRecords p) ≤ 256
+  pub fits : 32 + length (joined (derivedRecords p)) ≤ length output
+
+module _ (p output : List ℕ) (n : ℕ) where
+  pub derived-told : derivationOf p output ≡ Derived n → Deriving p output n
+  unfolding derivationOf derivingTests permanentTests
+  derived-told e =
+      let (passed, same) = passed-answer refusedDerivation (Derived n) (λ k q. true≢false (sym (ap isDerived q))) (permanentTests p ++ derivingTests p output) (Derived (length (derivedRecords p))) e in
+      let (table, rest) = passed-split (permanentTests p) (derivingTests p output) passed in
+      let (many, short) = or-neither (ltb 256 (length (derivedRecords p))) (ltb (length output) (32 + length (joined (derivedRecords p)))) (rest .1 .1 .0) in
+      record {
+        table = tests-sound Permanent p table;
+        one = rest .0;
+        sound = rest .1 .0;
+        number = sym (ap numberIn same);
+        few = ltb-false _ _ many;
+        fits = ltb-false _ _ short;
+      }
+
+  pub told-derived : Deriving p output n → derivationOf p output ≡ Derived n
+  unfolding handedOf
+  told-derived d =
+      sym (few-left p output (d .table) (d .one) (d .sound) (d .few))
+      ∙ rw (le-ltb (length output) (32 + length (joined (derivedRecords p))) (d .fits)) (ap Derived (sym (d .number)))
+
+-- ---- the table
+module _ (p output : List ℕ) (n : ℕ) (d : Deriving p output n) where
+  abbrev pub derived : List ℕ
+  derived = holding output permanent (featureOf p) (derivedRecords p)
+
+  abbrev records : List (List ℕ)
+  records = derivedRecords p
+
+  abbrev size : ℕ
+  size = recordSize (strideOf p)
+
+  named : length (featureOf p) ≡ 16
+  named = feature-long p (sound-table Permanent p (d .table) .headed)
+
+  begun : creationOf output permanent ≡ Made
+  begun = made output permanent (omega (arith, d .fits)) refl
+
+  -- the new table in the output, into which the records are written
+  abbrev fresh : List ℕ
+  fresh = new output permanent (featureOf p) named begun
+
+  fresh-sound : SoundTable (strideOf fresh) Both fresh
+  fresh-sound = new-sound output permanent (featureOf p) named begun
+
+  is : written fresh records ≡ derived
+  is = new-written output permanent (featureOf p) named begun records
+
+  good : (r : List ℕ) → In r records → Good (strideOf p) permanent r
+  good = all-good (strideOf p) permanent records (d .sound)
+
+  sized : Sized size records
+  sized = good-sized (strideOf p) permanent records good
+
+  roomy : length records ≤ roomOf size fresh
+  unfolding roomOf
+  roomy =
+      let l : length (joined records) ≡ length records * size = joined-length size records sized in
+      rw (new-room output permanent (featureOf p) named begun size) (omega (arith, d .few, d .fits))
+
+  inside : 32 + length (joined records) ≤ length fresh
+  inside = within (strideOf p) Both fresh fresh-sound records good roomy
+
+  counted : length records < 65536
+  counted = omega (arith, d .few)
+
+  alike : Alike fresh (written fresh records)
+  alike = written-alike fresh records (fresh-sound .headed) inside
+
+  -- it names the same feature, counts its records, has room for them and holds them
+  pub derived-feature : featureOf derived ≡ featureOf p
+  derived-feature = ap featureOf (sym is) ∙ same-feature fresh (written fresh records) alike ∙ new-feature output permanent (featureOf p) named begun
+
+  pub derived-counts : countOf derived ≡ n
+  derived-counts = ap countOf (sym is) ∙ written-count fresh records (fresh-sound .headed) inside counted ∙ sym (d .number)
+
+  pub derived-room : countOf derived ≤ roomOf size derived
+  derived-room =
+      let same : roomOf size derived ≡ roomOf size fresh = ap (roomOf size) (sym is) ∙ same-room fresh (written fresh records) alike size in
+      omega (arith, same, roomy, derived-counts, d .number)
+
+  pub derived-holds : recordsOf size derived ≡ records
+  derived-holds = ap (recordsOf size) (sym is) ∙ written-records fresh records (fresh-sound .headed) inside counted size sized
+
+  module _ (bytes : Bytes p) where
+    -- it passes 1 to 7
+    pub derived-sound : checkTable Permanent derived ≡ Sound
+    derived-sound =
+        let h = stays (strideOf p) Both fresh fresh-sound records good roomy (derived-up p bytes (d .table) (d .few)) in
+        ap (checkTable Permanent) (sym is)
+        ∙ table-sound Permanent (written fresh records) (record {
+          headed = h .headed;
+          letters = h .letters;
+          side = ap (takes Permanent) (same-side fresh (written fresh records) alike);
+          version = h .version;
+          reserved = h .reserved;
+          roomy = h .roomy;
+          sound = h .sound;
+          rising = h .rising;
+        })
+
+    -- and says the derived baselines
+    pub derived-slices : slicesOf derived ≡ derivedBaselines (nilUnknown (strideOf p)) (slicesOf p)
+    unfolding slicesOf
+    derived-slices = ap (map (viewOf (strideOf p))) derived-holds ∙ derived-views p bytes (d .table) (d .few)

@@ -1,0 +1,10 @@
+pub mod Changes
+pub mod Pasted
+pub mod Standings
+pub mod Walked
+pub mod Decided
+pub mod Laid
+pub mod Right
+pub mod DerivedTable
+pub mod ReadBack
+pub mod OneAnswer

@@ -1,0 +1,76 @@
+-- One change instant: what the answer to the question for its state tells of the standing there. Assumes nothing.
+use Prim.Native.Nat.{ℕ, _≤_}
+use mathlib.Core.Path.{_≡_, refl, sym, ap, _∙_}
+use mathlib.Core.List.{List}
+use mathlib.Core.Bool.{Bool, true, false, not, true≢false}
+use native.Mathlib.Omega.{arith}
+use lib.ListN.{length}
+use Rattle.laws.proofs.Tests.{contrary}
+use Rattle.numbers.specs.Numbers.{isNone}
+use Rattle.numbers.specs.declared.Instant.{Instant}
+use Rattle.slice.specs.Record.{permanent, recordSize}
+use Rattle.slice.specs.Check.{checkRecord}
+use Rattle.slice.specs.declared.check.Refusal.{Refusal}
+use Rattle.slice.specs.declared.check.Checked.{Checked}
+use Rattle.slice.specs.declared.check.Checked.the-variants.{Sound, Refused}
+use Rattle.table.specs.Header.{strideOf}
+use Rattle.table.specs.Rules.{isRefused, fails, checkOrder}
+use Rattle.history.specs.State.{State}
+use Rattle.history.specs.Permanent.{Standing, refuses, known, permanentAt}
+use Rattle.history.specs.Derived.{hasTwo}
+use Rattle.state.specs.Asking.{slicesOf, stateAtOf, outcomeOf}
+use Rattle.state.specs.declared.answer.Outcome.{Outcome}
+use Rattle.state.specs.declared.answer.Outcome.the-variants as outcome
+use Rattle.state.proofs.Stages.{order-left, left-asked}
+use Rattle.baselines.specs.Steps.{drawnRecord, stepOf}
+use Rattle.baselines.specs.declared.drawing.Step.{Step}
+
+abbrev numberIn : Outcome → ℕ
+numberIn outcome.Written = 0
+numberIn (outcome.Refused f) = f .number
+
+abbrev isWritten : Outcome → Bool
+isWritten outcome.Written = true
+isWritten (outcome.Refused f) = false
+
+pub told-refused : (v : Standing) (f : Refusal) → outcomeOf v ≡ outcome.Refused f → v ≡ refuses (f .number)
+told-refused (refuses n) f e = ap refuses (ap numberIn e)
+told-refused (known s) f e = absurd (true≢false (ap isWritten e))
+
+pub told-written : (v : Standing) → outcomeOf v ≡ outcome.Written → (s : State) × (v ≡ known s)
+told-written (refuses n) e = absurd (true≢false (sym (ap isWritten e)))
+told-written (known s) e = (s, refl)
+
+-- a table whose room and order are right, an instant that is given, and a record that fits: the answer is the standing's
+module _ (p : List ℕ) (at : Instant) (buffer : List ℕ) (order : checkOrder p ≡ Sound) (at-given : isNone at ≡ false) (fits : length buffer ≡ recordSize (strideOf p)) where
+  answered : stateAtOf p at buffer ≡ outcomeOf (permanentAt at (slicesOf p))
+  answered = sym (left-asked p at buffer (permanentAt at (slicesOf p)) at-given fits ∙ order-left p at buffer order)
+
+  pub standing-refused : (f : Refusal) → stateAtOf p at buffer ≡ outcome.Refused f → permanentAt at (slicesOf p) ≡ refuses (f .number)
+  standing-refused f e = told-refused (permanentAt at (slicesOf p)) f (sym answered ∙ e)
+
+  pub standing-known : stateAtOf p at buffer ≡ outcome.Written → (s : State) × (permanentAt at (slicesOf p) ≡ known s)
+  standing-known e = told-written (permanentAt at (slicesOf p)) (sym answered ∙ e)
+
+-- ---- a record that was drawn
+module _ (stride n : ℕ) (begin end : Instant) (s : State) (v : Standing) (told : v ≡ known s) where
+  abbrev step : Bool → Step
+  step sound = record { two = false; records = 1; sound = sound }
+
+  pub step-sound : checkRecord stride permanent (drawnRecord stride n begin end s) ≡ Sound → step true ≡ stepOf stride n begin end v
+  unfolding fails
+  step-sound e = sym (ap (stepOf stride n begin end) told ∙ ap (λ (c : Checked). step (not (isRefused c))) e)
+
+  pub step-unsound : (f : Refusal) → checkRecord stride permanent (drawnRecord stride n begin end s) ≡ Refused f → step false ≡ stepOf stride n begin end v
+  unfolding fails
+  step-unsound f e = sym (ap (stepOf stride n begin end) told ∙ ap (λ (c : Checked). step (not (isRefused c))) e)
+
+-- ---- what a step tells of the standing
+module _ (stride n : ℕ) (begin end : Instant) {step : Step} where
+  pub step-two : (v : Standing) → step ≡ stepOf stride n begin end v → step .two ≡ true → hasTwo v ≡ true
+  step-two (refuses k) e t = ap (λ (s : Step). s .two) (sym e) ∙ t
+  step-two (known s) e t = contrary t (ap (λ (s : Step). s .two) e)
+
+  pub step-most : (v : Standing) → step ≡ stepOf stride n begin end v → step .records ≤ 1
+  step-most (refuses k) e = omega (arith, ap (λ (s : Step). s .records) e)
+  step-most (known s) e = omega (arith, ap (λ (s : Step). s .records) e)

@@ -1,0 +1,100 @@
+-- `baselines::derivation::derive` meets its contract: the tests in their order, and then the records that were drawn. Assumes nothing.
+use Prim.Native.Nat.{ℕ}
+use mathlib.Core.Path.{_≡_, refl, sym, subst, _∙_}
+use mathlib.Core.Bool.{false}
+use mathlib.Core.List.{List}
+use native.Mathlib.Omega.{arith}
+use borrow.Author.Tests.{not-true, not-false}
+use Rattle.slice.specs.declared.check.Checked.the-variants.{Sound}
+use Rattle.slice.specs.Record.{permanent}
+use Rattle.laws.specs.Lists.{any}
+use Rattle.table.specs.Header.{strideOf}
+use Rattle.table.specs.Rules.{fails, checkTable}
+use Rattle.table.specs.declared.check.Sides.the-variants as sides
+use Rattle.table.proofs.Sound.{sound-table, sound-order}
+use Rattle.baselines.specs.Deriving.{derivedRecords}
+use Rattle.baselines.specs.Steps.{drawnOf, Drew}
+use Rattle.baselines.specs.declared.drawing.Drawn.{Drawn}
+use Rattle.baselines.proofs.Decided.{told-two, told-records, table-refused, two-refused, unsound-refused, many-refused, few-left}
+use borrow.Author.Needs.{needs}
+use Rattle.baselines.proofs.derivation.derive.Statement.{statement}
+use Rattle.baselines.proofs.derivation.derive.Tie as tie
+
+abbrev start : tie.After-enum-told → tie.Start
+start c = c .before .before .before .before .before
+
+abbrev table : tie.After-enum-told → List ℕ
+table c = start c .args .permanent .now
+
+sound : (c : tie.After-enum-told) → checkTable sides.Permanent (table c) ≡ Sound
+sound c = sym (c .before .before .check-table .ensures) ∙ c .enum-told .given .1
+
+-- what the walk told
+abbrev checked : tie.After-draw-all → tie.After-enum-told
+checked c = c .before .before
+
+told : (c : tie.After-count) → let p = table (checked (c .before .before .before)) in drawnOf p ≡ Drawn.Records (c .count .given .0 .0) (c .count .given .0 .1 .0)
+told c = sym (c .before .before .before .draw-all .ensures .0) ∙ c .count .given .1
+
+all-sound : (c : tie.Else1) → let p = table (checked (c .before .before .before .before .before)) in any (fails (strideOf p) permanent) (derivedRecords p) ≡ false
+all-sound c = let t = told-records _ _ _ (told (c .before .before)) in not-true _ (sym (t .2) ∙ not-false _ (c .if1 .left))
+
+returns : tie.Need-returns
+returns c = (table-refused _ _ _ (sym (c .before .before .before .check-table .ensures) ∙ c .before .refusal .given .1), refl)
+
+draw-all-requires : tie.Need-draw-all-requires
+draw-all-requires c κs = (sound-order sides.Permanent _ (sound-table sides.Permanent _ (sound (c .before))), refl)
+
+returns-2 : tie.Need-returns-2
+returns-2 c =
+    let k = c .before .before in
+    let t = told-records _ _ _ (told k) in
+    (unsound-refused _ _ (sound (checked (k .before .before .before))) (t .0) (not-false _ (sym (t .2) ∙ not-true _ (c .if1 .taken))), refl)
+
+returns-3 : tie.Need-returns-3
+returns-3 c =
+    let k = c .before .before .before in
+    let t = told-records _ _ _ (told k) in
+    (many-refused _ _ (sound (checked (k .before .before .before))) (t .0) (all-sound (c .before)) (omega (arith, t .1, c .if2 .taken)), refl)
+
+hand-over-requires : tie.Need-hand-over-requires
+hand-over-requires c κs =
+    let e = c .before .before in
+    let k = e .before .before .before in
+    let d = k .before .before .before in
+    let t = told-records _ _ _ (told k) in
+    let drew = subst (λ (r : Drawn). Drew r (table (checked d)) (d .draw-all .last .1 .0)) (k .count .given .1) (d .draw-all .ensures .1) in
+    (sound-table sides.Permanent _ (sound (checked d)) .headed, (e .if2 .left, (t .1, (search needs, drew (e .if2 .left)))))
+
+returns-4 : tie.Need-returns-4
+returns-4 c =
+    let d = c .before .before .before in
+    (two-refused _ _ (sound (checked d)) (told-two _ (sym (d .draw-all .ensures .0) ∙ c .enum-told2 .given .1)), refl)
+
+returns-5 : tie.Need-returns-5
+returns-5 c =
+    let h = c .before .before in
+    let e = h .before .before .before in
+    let k = e .before .before .before in
+    let t = told-records _ _ _ (told k) in
+    (h .hand-over .ensures .0 ∙ few-left _ _ (sound (checked (k .before .before .before))) (t .0) (all-sound (e .before)) (omega (arith, t .1, e .if2 .left)), h .hand-over .ensures .1)
+
+pub derive-spec : {M : Type 1} → statement M
+derive-spec =
+    tie.close
+    (tie.spec
+    (λ c κs. search needs)
+    (λ c. search needs)
+    returns
+    (λ c. search needs)
+    (λ c. search needs)
+    draw-all-requires
+    (λ c. search needs)
+    (λ c. search needs)
+    returns-2
+    returns-3
+    (λ c. search needs)
+    hand-over-requires
+    returns-4
+    (λ c. search needs)
+    returns-5)

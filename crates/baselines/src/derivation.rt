@@ -1,0 +1,79 @@
+// The derived table of a permanent table.
+ghost use mathlib.Core.Path.{_≡_};
+ghost use Prim.Native.Nat.{_*_, _≤_};
+ghost use lib.ListN.{length, take};
+ghost use Rattle.laws.specs.Lists.{joined};
+ghost use Rattle.octets.specs.Writing.{pasted};
+ghost use Rattle.slice.specs.Record.{recordSize};
+ghost use Rattle.slice.specs.Record as Record;
+ghost use Rattle.table.specs.Header.{strideOf, headerOf};
+ghost use Rattle.baselines.specs.Deriving.{derivedRecords, derivationOf, afterDeriving};
+ghost use Rattle.baselines.specs.Steps.{handedOf};
+use crate::drawing::Drawn;
+use crate::drawing::draw_all;
+use octets::put;
+use octets::put16;
+use slice::Checked;
+use slice::PERMANENT;
+use slice::Refusal;
+use table::Sides;
+use table::check_table;
+use table::stride_of;
+
+// What a derivation answers: how many records it has written.
+pub enum Derivation {
+    Derived(usize),
+    Refused(Refusal),
+}
+
+// Writes the header of a permanent table of a feature, with a count.
+fn put_header(output: &mut [u8], feature: &[u8], count: u16)
+    requires { ⌜ (32 ≤ length (now output)) × (length (now feature) ≡ 16) ⌝ }
+    ensures { λ _. ⌜ now (output .exit) ≡ pasted (now (output .entry)) 0 (headerOf Record.permanent (now (feature .entry)) count) ⌝ }
+{
+    put(output, 0, &[b'T', b'S', b'L', PERMANENT, 0, 1]);
+    put16(output, 6, count);
+    put(output, 8, feature);
+    put(output, 24, &[0, 0, 0, 0, 0, 0, 0, 0]);
+}
+
+// Hands the drawn records over as a table, or answers 23 where the output does not hold them.
+fn hand_over(permanent: &[u8], drawn: &[u8], count: usize, output: &mut [u8]) -> Derivation
+    requires { ⌜ (32 ≤ length (now permanent)) × ((count ≤ 256) × ((count ≡ length (derivedRecords (now permanent))) × ((length (now drawn) ≡ 257 * recordSize (strideOf (now permanent))) × (take (count * recordSize (strideOf (now permanent))) (now drawn) ≡ joined (derivedRecords (now permanent)))))) ⌝ }
+    ensures answer { λ r. ⌜ r ≡ handedOf (now (permanent .entry)) (now (output .entry)) ⌝ }
+    ensures buffer { λ r. ⌜ now (output .exit) ≡ afterDeriving r (now (permanent .entry)) (now (output .entry)) ⌝ }
+{
+    let length = count * (32 + 8 * stride_of(permanent));
+    if output.len() < 32 + length {
+        return Derivation::Refused(Refusal { number: 23 });
+    }
+    put_header(output, &permanent[8..24], count as u16);
+    put(output, 32, &drawn[0..length]);
+    Derivation::Derived(count)
+}
+
+// Derives the baselines of a permanent table: one BASELINE for each change instant that has a permanent
+// state, until the next one, as a permanent table of the same feature. Answers their number. Refused, with
+// every byte as it was: 1 to 7 for the table, 21 for two anchors at a change instant, 24 for a derived
+// record that fails the slice check, 23 for over 256 records or more than the output holds.
+pub fn derive(permanent: &[u8], output: &mut [u8]) -> Derivation
+    ensures answer { λ r. ⌜ r ≡ derivationOf (now (permanent .entry)) (now (output .entry)) ⌝ }
+    ensures buffer { λ r. ⌜ now (output .exit) ≡ afterDeriving r (now (permanent .entry)) (now (output .entry)) ⌝ }
+{
+    if let Checked::Refused(refusal) = check_table(permanent, Sides::Permanent) {
+        return Derivation::Refused(refusal);
+    }
+    let mut drawn = [0u8; 57568];
+    match draw_all(permanent, &mut drawn) {
+        Drawn::Two => Derivation::Refused(Refusal { number: 21 }),
+        Drawn::Records(count, sound) => {
+            if !sound {
+                return Derivation::Refused(Refusal { number: 24 });
+            }
+            if 256 < count {
+                return Derivation::Refused(Refusal { number: 23 });
+            }
+            hand_over(permanent, &drawn, count, output)
+        }
+    }
+}
