@@ -1,0 +1,4 @@
+pub mod Held
+pub mod Said
+pub mod Lengths
+pub mod OneAnswer
