@@ -19,7 +19,10 @@
 extern "C" {
 #endif
 
-/* An answer. kind 0: refused, and number says why. Every other kind is an accepted answer, with number 0. */
+/*
+ * An answer. kind 0: refused, and number says why. Every other kind is an accepted answer; number is 0 where a call says
+ * nothing of it.
+ */
 typedef struct {
     uint32_t kind;
     uint32_t number;
@@ -148,6 +151,38 @@ tsl_answer tsl_snapshot(const uint8_t *permanent, size_t permanent_len, const ui
  */
 tsl_part tsl_property(const uint8_t *permanent, size_t permanent_len, const uint8_t *temporary, size_t temporary_len,
                       uint32_t instant, uint8_t property);
+
+/*
+ * Derives the baselines of a permanent table: one BASELINE for each change instant at which a permanent state exists, until the
+ * next change instant or without end, with the life times and properties of the state (one that nothing mentions as nil,
+ * unknown), correction number 0 and sequence numbers 1, 2, 3 and so on. The output becomes a permanent table of the same
+ * feature; its bytes beyond the records are kept. 57376 bytes hold every result. The call takes some 60 kB of stack.
+ *
+ * kind 1   derived: number is the number of records
+ * kind 0   refused, number; where several apply, the first of these
+ *      1   permanent_len is under 32
+ *      2   the letters of the table are wrong, or its side is not 0
+ *      3   the version of the table is not 1
+ *      4   header bytes 24 to 31 are not zero
+ *      5   the count is over the room of the table
+ *      6   some record in the table fails 11 to 16 of an arrival
+ *      7   the records are not in strictly rising order of kind, then sequence number
+ *     21   two anchors at a change instant
+ *     24   a derived record fails the slice check
+ *     23   over 256 records, or more than the output holds
+ */
+tsl_answer tsl_derive(const uint8_t *permanent, size_t permanent_len, uint8_t *output, size_t output_len);
+
+/*
+ * Writes the listing of a permanent table's derived baselines as text: a line "derived N", and a line for each record with its
+ * sequence number, begin, end or "-", and the forms of its eight properties as digits; or a line "refused N", with the number
+ * that tsl_derive gives for an output of 57376 bytes. Each line ends with a line feed; there is no zero byte behind the text, and
+ * the bytes beyond it are kept. 10771 bytes hold every listing. The call takes some 130 kB of stack.
+ *
+ * kind 1   the text is written: number is its length
+ * kind 2   the text does not fit: number is the length that it needs, and no byte is changed
+ */
+tsl_answer tsl_listing(const uint8_t *permanent, size_t permanent_len, uint8_t *text, size_t text_len);
 
 #ifdef __cplusplus
 }

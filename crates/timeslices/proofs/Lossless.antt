@@ -12,7 +12,12 @@ use Rattle.state.specs.declared.answer.Outcome.{Outcome}
 use Rattle.state.specs.declared.answer.Outcome.the-variants as outcome
 use Rattle.state.specs.declared.question.Place.{Place}
 use Rattle.state.specs.declared.question.Place.the-variants as place
-use Rattle.timeslices.specs.Answers.{creationNumbers, arrivalNumbers, outcomeNumbers, placeNumbers}
+use Rattle.baselines.specs.Deriving.{refusedDerivation}
+use Rattle.baselines.specs.declared.derivation.Derivation.{Derivation}
+use Rattle.baselines.specs.declared.derivation.Derivation.the-variants as derivation
+use Rattle.timeslices.specs.Answers.{creationNumbers, arrivalNumbers, outcomeNumbers, placeNumbers, derivationNumbers, listingNumbers}
+use Rattle.text.specs.declared.listing.Listing.{Listing}
+use Rattle.text.specs.declared.listing.Listing.the-variants as listing
 use Rattle.timeslices.specs.declared.Answer.{Answer}
 use Rattle.timeslices.specs.declared.Part.{Part}
 
@@ -74,3 +79,28 @@ place-back p t place.Unmentioned = refl
 -- by the kind, the number and where it begins: whatever the tables, and without the size
 pub place-told : (p t : List ℕ) (a b : Place) → placeNumbers p t a ≡ placeNumbers p t b → a ≡ b
 place-told p t a b e = sym (place-back p t a) ∙ ap (λ (x : Part). placeBy (x .kind) (x .number) (x .at)) e ∙ place-back p t b
+
+-- ---- a derivation
+abbrev derivationBy : ℕ → ℕ → Derivation
+derivationBy zero n = refusedDerivation n
+derivationBy (suc k) n = derivation.Derived n
+
+derivation-back : (d : Derivation) → derivationBy (derivationNumbers d .kind) (derivationNumbers d .number) ≡ d
+derivation-back (derivation.Refused f) = refl
+derivation-back (derivation.Derived n) = refl
+
+pub derivation-told : (a b : Derivation) → derivationNumbers a ≡ derivationNumbers b → a ≡ b
+derivation-told a b e = sym (derivation-back a) ∙ ap (λ (x : Answer). derivationBy (x .kind) (x .number)) e ∙ derivation-back b
+
+-- ---- a listing
+abbrev listingBy : ℕ → ℕ → Listing
+listingBy zero n = listing.Text n
+listingBy (suc zero) n = listing.Text n
+listingBy (suc (suc k)) n = listing.Needs n
+
+listing-back : (l : Listing) → listingBy (listingNumbers l .kind) (listingNumbers l .number) ≡ l
+listing-back (listing.Text n) = refl
+listing-back (listing.Needs n) = refl
+
+pub listing-told : (a b : Listing) → listingNumbers a ≡ listingNumbers b → a ≡ b
+listing-told a b e = sym (listing-back a) ∙ ap (λ (x : Answer). listingBy (x .kind) (x .number)) e ∙ listing-back b

@@ -11,6 +11,10 @@ use Rattle.state.specs.declared.answer.Outcome.{Outcome}
 use Rattle.state.specs.declared.answer.Outcome.the-variants as outcome
 use Rattle.state.specs.declared.question.Place.{Place}
 use Rattle.state.specs.declared.question.Place.the-variants as place
+use Rattle.baselines.specs.declared.derivation.Derivation.{Derivation}
+use Rattle.baselines.specs.declared.derivation.Derivation.the-variants as derivation
+use Rattle.text.specs.declared.listing.Listing.{Listing}
+use Rattle.text.specs.declared.listing.Listing.the-variants as listing
 use Rattle.timeslices.specs.declared.Answer.{Answer}
 use Rattle.timeslices.specs.declared.Part.{Part}
 
@@ -43,3 +47,13 @@ placeNumbers p t (place.Refused f) = record { kind = 0; number = f .number; at =
 placeNumbers p t (place.Permanent n) = partAt 1 p n
 placeNumbers p t (place.Temporary n) = partAt 2 t n
 placeNumbers p t place.Unmentioned = record { kind = 3; number = 0; at = 0; size = 0 }
+
+-- the number of records
+abbrev pub derivationNumbers : Derivation → Answer
+derivationNumbers (derivation.Refused f) = record { kind = 0; number = f .number }
+derivationNumbers (derivation.Derived n) = record { kind = 1; number = n }
+
+-- the length of the text, or the length that it needs
+abbrev pub listingNumbers : Listing → Answer
+listingNumbers (listing.Text n) = record { kind = 1; number = n }
+listingNumbers (listing.Needs n) = record { kind = 2; number = n }

@@ -3,7 +3,11 @@
 ghost use mathlib.Core.Path.{_≡_};
 ghost use Rattle.table.specs.Arriving.{creationOf, created, arrivalOf, arrivedAt};
 ghost use Rattle.state.specs.Asking.{permanentStateOf, snapshotOf, afterState, afterSnapshot, placeOf};
-ghost use Rattle.timeslices.specs.Answers.{instantOf, creationNumbers, arrivalNumbers, outcomeNumbers, partAt, placeNumbers};
+ghost use Rattle.baselines.specs.Deriving.{derivationOf, afterDeriving};
+ghost use Rattle.timeslices.specs.Answers.{instantOf, creationNumbers, arrivalNumbers, outcomeNumbers, partAt, placeNumbers, derivationNumbers, listingNumbers};
+ghost use Rattle.text.specs.Listing.{listingOf, putOf, afterPut};
+use baselines::Derivation;
+use baselines::derive;
 use numbers::Instant;
 use state::Outcome;
 use state::Place;
@@ -15,6 +19,8 @@ use table::Creation;
 use table::arrive;
 use table::new_table;
 use table::stride_of;
+use text::Listing;
+use text::list;
 
 // An answer as C has it. Kind 0: refused, and `number` says why. The other kinds are each call's own.
 #[repr(C)]
@@ -145,6 +151,44 @@ pub extern "C" fn tsl_property(
             number: refusal.number as u32,
             at: 0,
             size: 0,
+        },
+    }
+}
+
+// Derives the baselines of a permanent table into the output: kind 1, and their number. Refused, with every
+// byte as it was: 1 to 7, 21, 23 and 24.
+#[no_mangle]
+pub extern "C" fn tsl_derive(permanent: &[u8], output: &mut [u8]) -> Answer
+    ensures answer { λ r. ⌜ r ≡ derivationNumbers (derivationOf (now (permanent .entry)) (now (output .entry))) ⌝ }
+    ensures buffer { λ r. ⌜ now (output .exit) ≡ afterDeriving (derivationOf (now (permanent .entry)) (now (output .entry))) (now (permanent .entry)) (now (output .entry)) ⌝ }
+{
+    match derive(permanent, output) {
+        Derivation::Derived(count) => Answer {
+            kind: 1,
+            number: count as u32,
+        },
+        Derivation::Refused(refusal) => Answer {
+            kind: 0,
+            number: refusal.number as u32,
+        },
+    }
+}
+
+// Writes the listing of a permanent table's derived baselines as text: kind 1, and its length. Where the
+// buffer is shorter: kind 2, the length that the text needs, and every byte as it was. A refusal is a text.
+#[no_mangle]
+pub extern "C" fn tsl_listing(permanent: &[u8], text: &mut [u8]) -> Answer
+    ensures answer { λ r. ⌜ r ≡ listingNumbers (putOf (listingOf (now (permanent .entry))) (now (text .entry))) ⌝ }
+    ensures buffer { λ r. ⌜ now (text .exit) ≡ afterPut (putOf (listingOf (now (permanent .entry))) (now (text .entry))) (listingOf (now (permanent .entry))) (now (text .entry)) ⌝ }
+{
+    match list(permanent, text) {
+        Listing::Text(length) => Answer {
+            kind: 1,
+            number: length as u32,
+        },
+        Listing::Needs(length) => Answer {
+            kind: 2,
+            number: length as u32,
         },
     }
 }

@@ -1,0 +1,50 @@
+use Prim.Native.Nat.{ℕ, _≤_}
+use mathlib.Core.Path.{_≡_, sym, ap, _∙_}
+use native.Mathlib.Omega.{arith}
+use Rattle.text.specs.Listing.{listingOf, putOf, afterPut}
+use Rattle.text.specs.declared.listing.Listing.{Listing}
+use Rattle.text.proofs.Lengths.{listing-most, lengthIn, put-length}
+use Rattle.timeslices.specs.Answers.{listingNumbers}
+use borrow.Author.Needs.{needs}
+use Rattle.timeslices.proofs.tsl_listing.Statement.{statement}
+use Rattle.timeslices.proofs.tsl_listing.Tie as tie
+
+-- the answer by its numbers, and the text after it
+numbered : (c : tie.After-list) (a : Listing) → c .list .result ≡ a
+    → let g = c .before .before .before .before .args in (listingNumbers a ≡ listingNumbers (putOf (listingOf (g .permanent .now)) (g .text .now))) × (c .list .last .1 .0 ≡ afterPut (putOf (listingOf (g .permanent .now)) (g .text .now)) (listingOf (g .permanent .now)) (g .text .now))
+numbered c a e =
+    let x = c .list .ensures in
+    (ap listingNumbers (sym e ∙ x .0), rw (x .0) at (x .1))
+
+-- a listing is short
+short : (c : tie.After-list) (a : Listing) → c .list .result ≡ a → lengthIn a ≤ 10771
+short c a e =
+    let g = c .before .before .before .before .args in
+    let l : lengthIn a ≡ _ = ap lengthIn (sym e ∙ c .list .ensures .0) ∙ put-length (listingOf (g .permanent .now)) (g .text .now) in
+    omega (arith, l, listing-most (g .permanent .now))
+
+cast-t9 : tie.Need-cast-t9
+cast-t9 c = omega (arith, short (c .before .before .before .before .before) _ (c .before .length .given .1))
+
+cast-t10 : tie.Need-cast-t10
+cast-t10 c = omega (arith, short (c .before .before .before .before .before) _ (c .before .length2 .given .1))
+
+returns : tie.Need-returns
+returns c = numbered (c .before .before .before .before .before) _ (c .before .length .given .1)
+
+returns-2 : tie.Need-returns-2
+returns-2 c = numbered (c .before .before .before .before .before) _ (c .before .length2 .given .1)
+
+pub tsl-listing-spec : {M : Type 1} → statement M
+tsl-listing-spec =
+    tie.close
+    (tie.spec
+    (λ c κs. search needs)
+    (λ c. search needs)
+    cast-t9
+    (λ c. search needs)
+    cast-t10
+    (λ c. search needs)
+    returns
+    (λ c. search needs)
+    returns-2)
