@@ -1,5 +1,6 @@
 //! Measures a library against the plain program of this one, on the same bytes in one run.
 
+mod derived;
 mod questions;
 
 use crate::library::{Library, Reply, PLAIN};
@@ -89,7 +90,7 @@ pub fn run(library: &Library, rounds: usize) -> bool {
             }
         }
     }
-    true
+    derived::run(library, rounds)
 }
 
 /// Makes a table that counts so many records and has no room for more.
@@ -351,6 +352,11 @@ mod tests {
             ..PLAIN
         };
         assert!(!run(&wrong, 1));
+        let wrong = Library {
+            derive: |_, _| Reply::new(1, 1),
+            ..PLAIN
+        };
+        assert!(!derived::run(&wrong, 1));
     }
 
     /// The middle one.

@@ -2,12 +2,14 @@
 //! against the other's.
 
 use crate::arrival;
+use crate::derived;
 use crate::library::{Library, Reply};
+use crate::listing;
 use crate::play::{round, Call, Player};
 use crate::question;
 use crate::table::{self, MOST_RECORDS};
-use crate::tables::{Question, Tables};
-use crate::vectors::format::{fill_lines, instant_line, line, record_line, EXCHANGE};
+use crate::tables::{Product, Question, Tables};
+use crate::vectors::format::{fill_lines, instant_line, line, output_line, record_line, EXCHANGE};
 use std::collections::BTreeMap;
 use std::fmt;
 use std::time::{Duration, Instant};
@@ -104,6 +106,8 @@ fn word(letter: char, reply: Reply) -> String {
         'm' => &["made"],
         'a' => &["added", "replaced", "superseded", "repeat"],
         'v' => &["permanent", "temporary", "unmentioned"],
+        'e' => &["derived"],
+        'y' => &["text", "needs"],
         _ => &["written"],
     };
     match (reply.kind as usize).checked_sub(1) {
@@ -139,7 +143,7 @@ impl Player for Comparison<'_> {
             .map(|(bytes, shift)| Lent::new(bytes, GUARD + shift))
             .collect();
         let reply = call.put(self.library, lent.part_mut(), &handed);
-        let counted = Reply::new(right.kind, right.number);
+        let counted = Reply::new(right.kind, if right.kind == 0 { right.number } else { 0 });
         *self.tally.entry((call.letter(), counted)).or_insert(0) += 1;
         let handed = handed.iter().zip(call.handed());
         let difference = Difference {
@@ -173,6 +177,7 @@ impl Call<'_> {
                 Question::Snapshot => 'n',
                 Question::Property(_) => 'v',
             },
+            Call::Make { product, .. } => product.letter(),
         }
     }
 
@@ -187,6 +192,7 @@ impl Call<'_> {
                 Question::State => vec![&tables.permanent],
                 _ => vec![&tables.permanent, &tables.temporary],
             },
+            Call::Make { permanent, .. } => vec![permanent],
         }
     }
 
@@ -215,6 +221,12 @@ impl Call<'_> {
                 ];
                 [tables.lines(), asking].concat()
             }
+            Call::Make { permanent, .. } => {
+                let value = place.first().copied().unwrap_or(0);
+                let output = output_line(place.len(), value);
+                let asking = vec![output, line(self.letter(), &[])];
+                [fill_lines(permanent, 0), asking].concat()
+            }
         }
     }
 
@@ -230,6 +242,7 @@ impl Call<'_> {
                 instant,
                 question,
             } => tables.answer(*instant, *question, place),
+            Call::Make { permanent, product } => product.answer(permanent, place),
         }
     }
 
@@ -251,6 +264,20 @@ impl Call<'_> {
                     (library.property)(handed[0], handed[1], *instant, number)
                 }
             },
+            Call::Make { product, .. } => match product {
+                Product::Derived => (library.derive)(handed[0], place),
+                Product::Listing => (library.listing)(handed[0], place),
+            },
+        }
+    }
+}
+
+impl Product {
+    /// Makes it by this program's own rules.
+    fn answer(self, permanent: &[u8], output: &mut [u8]) -> Reply {
+        match self {
+            Product::Derived => Reply::of_derived(derived::derive(permanent, output)),
+            Product::Listing => Reply::of_listing(listing::list(permanent, output)),
         }
     }
 }
@@ -333,7 +360,10 @@ impl fmt::Display for Difference {
         writeln!(out, "{}", self.lines.join("\n"))?;
         writeln!(out, "expected {:?}, got {:?}", self.right, self.reply)?;
         if let Some(byte) = self.place {
-            writeln!(out, "table or record: byte {byte} is not as expected")?;
+            writeln!(
+                out,
+                "table, record or output: byte {byte} is not as expected"
+            )?;
         }
         for (index, byte) in self.handed.iter().enumerate() {
             if let Some(byte) = byte {
@@ -347,7 +377,7 @@ impl fmt::Display for Difference {
 #[cfg(test)]
 mod tests {
     use super::*;
-    use crate::library::PLAIN;
+    use crate::library::{BY_SWEEPS, ON_HEAP, PLAIN};
 
     /// Answers whether some rounds with a library go without a difference.
     fn is_same(library: &Library) -> bool {
@@ -355,15 +385,24 @@ mod tests {
         (0..6).all(|seed| play(library, seed, &mut tally).is_ok())
     }
 
-    /// The plain program answers as the decoded one, and every answer comes up.
-    #[test]
-    fn the_plain_program_is_the_same() {
+    /// Plays some rounds to a library, which make no difference; answers how they were answered.
+    fn same(library: &Library) -> Tally {
         let mut tally = Tally::new();
         for seed in 100..116 {
-            if let Err(difference) = play(&PLAIN, seed, &mut tally) {
+            if let Err(difference) = play(library, seed, &mut tally) {
                 panic!("{difference}");
             }
         }
+        tally
+    }
+
+    /// The plain program answers as the decoded one, in each way that it derives, and every answer comes
+    /// up.
+    #[test]
+    fn the_plain_program_is_the_same() {
+        let tally = same(&PLAIN);
+        assert_eq!(same(&BY_SWEEPS), tally);
+        assert_eq!(same(&ON_HEAP), tally);
         let words: Vec<String> = tally
             .keys()
             .map(|&(letter, reply)| word(letter, reply))
@@ -372,11 +411,12 @@ mod tests {
             words.join(", "),
             "a 1, a 2, a 3, a 4, a 5, a 6, a 7, a 9, a 10, a 11, a 12, a 13, a 14, a 15, a 16, a 17, a 18, \
              a added, a replaced, a superseded, a repeat, \
+             e 1, e 2, e 3, e 4, e 5, e 6, e 7, e 21, e 23, e derived, \
              g 1, g 2, g 3, g 4, g 5, g 6, g 7, g 19, g 20, g 21, g 22, g 23, g written, \
              m 1, m 2, m made, \
              n 1, n 2, n 3, n 4, n 5, n 6, n 7, n 8, n 19, n 20, n 21, n 22, n 23, n written, \
              v 1, v 2, v 3, v 4, v 5, v 6, v 7, v 8, v 19, v 20, v 21, v 22, \
-             v permanent, v temporary, v unmentioned"
+             v permanent, v temporary, v unmentioned, y text, y needs"
         );
     }
 
@@ -435,6 +475,36 @@ mod tests {
             ..PLAIN
         };
         assert!(![untimely, misplacing, meddling].iter().any(is_same));
+    }
+
+    /// A record too few, and outputs that are touched where they should not be, are found.
+    #[test]
+    fn wrong_products_are_found() {
+        let miscounting = Library {
+            derive: |permanent, output| match (PLAIN.derive)(permanent, output) {
+                Reply {
+                    kind: 1, number, ..
+                } => Reply::new(1, number.saturating_sub(1)),
+                reply => reply,
+            },
+            ..PLAIN
+        };
+        let hasty = Library {
+            derive: |permanent, output| {
+                output.iter_mut().take(3).for_each(|byte| *byte = b'T');
+                (PLAIN.derive)(permanent, output)
+            },
+            ..PLAIN
+        };
+        let careless = Library {
+            listing: |permanent, text| {
+                let whole = (PLAIN.listing)(permanent, text);
+                text.iter_mut().take(1).for_each(|byte| *byte = b'd');
+                whole
+            },
+            ..PLAIN
+        };
+        assert!(![miscounting, hasty, careless].iter().any(is_same));
     }
 
     /// A byte beside the lent part is found.

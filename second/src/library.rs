@@ -7,8 +7,8 @@ use crate::record::Side;
 use crate::refusal::Refusal;
 use crate::table::Feature;
 
-/// An answer as the C interface has it: kind 0 is a refusal with its number. A part has a place and a
-/// size; no other answer does.
+/// An answer as the C interface has it: kind 0 is a refusal with its number; derived baselines have their
+/// number there, a listing its length. A part has a place and a size; no other answer does.
 #[derive(Clone, Copy, Debug, PartialEq, Eq, PartialOrd, Ord)]
 pub struct Reply {
     pub kind: u32,
@@ -25,9 +25,11 @@ pub struct Library {
     pub permanent_state: fn(&[u8], u32, &mut [u8]) -> Reply,
     pub snapshot: fn(&[u8], &[u8], u32, &mut [u8]) -> Reply,
     pub property: fn(&[u8], &[u8], u32, u8) -> Reply,
+    pub derive: fn(&[u8], &mut [u8]) -> Reply,
+    pub listing: fn(&[u8], &mut [u8]) -> Reply,
 }
 
-/// The plain program of this one.
+/// The plain program of this one, which derives in steps.
 pub const PLAIN: Library = Library {
     new_table: |table, side, feature| Reply::of_writing(plain::new_table(table, side, feature)),
     arrive: |table, slice| Reply::of_arrival(plain::arrive(table, slice)),
@@ -40,10 +42,24 @@ pub const PLAIN: Library = Library {
     property: |permanent, temporary, instant, property| {
         Reply::of_part(plain::property([permanent, temporary], instant, property))
     },
+    derive: |permanent, output| Reply::of_derived(plain::derive_by_steps(permanent, output)),
+    listing: |permanent, text| Reply::of_listing(plain::list(permanent, text)),
+};
+
+/// The plain program that derives in sweeps without a heap.
+pub const BY_SWEEPS: Library = Library {
+    derive: |permanent, output| Reply::of_derived(plain::derive_by_sweeps(permanent, output)),
+    ..PLAIN
+};
+
+/// The plain program that derives in a sweep with a heap.
+pub const ON_HEAP: Library = Library {
+    derive: |permanent, output| Reply::of_derived(plain::derive_on_heap(permanent, output)),
+    ..PLAIN
 };
 
 impl Reply {
-    /// Answers the reply of a kind, with a refusal's number.
+    /// Answers the reply of a kind, with a number: of a refusal, of records or of bytes.
     pub const fn new(kind: u32, number: u32) -> Reply {
         Reply {
             kind,
@@ -86,5 +102,18 @@ impl Reply {
                 size: PROPERTY_BYTES as u64,
             })
         })
+    }
+
+    /// Answers the reply of derived baselines, by their number.
+    pub fn of_derived(count: Result<usize, Refusal>) -> Reply {
+        count.map_or_else(Reply::refuse, |count| Reply::new(1, count as u32))
+    }
+
+    /// Answers the reply of a listing, by its length, which is an error where it does not fit.
+    pub fn of_listing(length: Result<usize, usize>) -> Reply {
+        match length {
+            Ok(length) => Reply::new(1, length as u32),
+            Err(needed) => Reply::new(2, needed as u32),
+        }
     }
 }

@@ -46,6 +46,18 @@ unsafe extern "C" {
         instant: u32,
         property: u8,
     ) -> Part;
+    fn tsl_derive(
+        permanent: *const u8,
+        permanent_len: usize,
+        output: *mut u8,
+        output_len: usize,
+    ) -> Answer;
+    fn tsl_listing(
+        permanent: *const u8,
+        permanent_len: usize,
+        text: *mut u8,
+        text_len: usize,
+    ) -> Answer;
 }
 
 /// The linked library.
@@ -55,6 +67,8 @@ pub const LINKED: Library = Library {
     permanent_state,
     snapshot,
     property,
+    derive,
+    listing,
 };
 
 impl Answer {
@@ -128,4 +142,18 @@ fn property(permanent: &[u8], temporary: &[u8], instant: u32, property: u8) -> R
         at: part.at,
         size: part.size,
     }
+}
+
+/// Calls the library for derived baselines.
+fn derive(permanent: &[u8], output: &mut [u8]) -> Reply {
+    let (length, place) = (output.len(), output.as_mut_ptr());
+    // SAFETY: both pointers and lengths are those of live parts that do not overlap.
+    unsafe { tsl_derive(permanent.as_ptr(), permanent.len(), place, length) }.reply()
+}
+
+/// Calls the library for a listing.
+fn listing(permanent: &[u8], text: &mut [u8]) -> Reply {
+    let (length, place) = (text.len(), text.as_mut_ptr());
+    // SAFETY: both pointers and lengths are those of live parts that do not overlap.
+    unsafe { tsl_listing(permanent.as_ptr(), permanent.len(), place, length) }.reply()
 }

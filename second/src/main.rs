@@ -1,19 +1,23 @@
-//! The second program: the property layout, the property rule, the slice check, tables, arrivals and
-//! the questions about an instant, written from the specification alone, and the vectors that go with
-//! them. Where the library is linked it is compared and measured.
+//! The second program: the property layout, the property rule, the slice check, tables, arrivals, the
+//! questions about an instant, derived baselines and their listing, written from the specification
+//! alone, and the vectors that go with them. Where the library is linked it is compared and measured.
 
 mod arrival;
 #[cfg(any(test, feature = "linked"))]
 mod bench;
 #[cfg(any(test, feature = "linked"))]
 mod compare;
+mod derived;
 #[cfg(test)]
 mod examples;
+mod files;
 mod histories;
 #[cfg(any(test, feature = "linked"))]
 mod library;
 #[cfg(feature = "linked")]
 mod linked;
+mod listing;
+mod listings;
 #[cfg(any(test, feature = "linked"))]
 mod plain;
 mod play;
@@ -22,6 +26,7 @@ mod question;
 mod random;
 mod record;
 mod refusal;
+mod samples;
 mod slice;
 mod state;
 mod supply;
@@ -45,6 +50,21 @@ fn text(words: &[&str]) -> Option<String> {
         ["vectors", "answers", seed] => Some(vectors::random(seed.parse().ok()?).answers()),
         _ => None,
     }
+}
+
+/// Writes the files that a command line asks for; answers whether that went well, or nothing for another
+/// ask.
+fn files(words: &[&str]) -> Option<bool> {
+    let (folder, files) = match words {
+        ["listings", folder] => (folder, listings::files()),
+        ["samples", folder] => (folder, samples::files()),
+        _ => return None,
+    };
+    let written = files::write(folder, &files);
+    if let Err(error) = &written {
+        eprintln!("{folder}: {error}");
+    }
+    Some(written.is_ok())
 }
 
 /// Compares or measures the library; answers whether all was well, or nothing for another ask.
@@ -78,14 +98,14 @@ fn main() -> ExitCode {
     let words: Vec<&str> = arguments.iter().map(String::as_str).collect();
     let done = match text(&words) {
         Some(text) => Some(std::io::stdout().write_all(text.as_bytes()).is_ok()),
-        None => with_library(&words),
+        None => files(&words).or_else(|| with_library(&words)),
     };
     match done {
         Some(true) => ExitCode::SUCCESS,
         Some(false) => ExitCode::FAILURE,
         None => {
             eprintln!(
-                "usage: second vectors [input|answers] | vectors input|answers SEED | compare [ROUNDS|SECONDSs] [SEED] | bench [ROUNDS]"
+                "usage: second vectors [input|answers [SEED]] | listings FOLDER | samples FOLDER | compare [ROUNDS|SECONDSs] [SEED] | bench [ROUNDS]"
             );
             ExitCode::from(UNKNOWN)
         }

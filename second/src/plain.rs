@@ -1,8 +1,14 @@
 //! The calls once more, in place on the bytes, as a plain fast program has them. The library is
-//! measured against these; they are held against `table`, `arrival` and `question` in the tests.
+//! measured against these; they are held against `table`, `arrival`, `question`, `derived` and `listing`
+//! in the tests.
 
+mod derive;
+mod few;
+mod listing;
 mod state;
 
+pub use derive::{derive_by_steps, derive_by_sweeps, derive_on_heap};
+pub use listing::list;
 pub use state::{permanent_state, property, snapshot};
 
 use crate::arrival::Arrival;

@@ -5,10 +5,12 @@ use crate::random::Random;
 use crate::record::{Side, NONE, RECORD_BYTES};
 use crate::supply;
 use crate::table::{Feature, HEADER_BYTES};
-use crate::tables::{Question, Tables};
+use crate::tables::{Product, Question, Tables};
+use crate::vectors::derived::apart;
+use crate::vectors::deriving::bytes_of;
 use crate::vectors::sample::FEATURE;
 
-/// A call that may change a place: a table, or for a question the record.
+/// A call that may change a place: a table, for a question the record, or else the output.
 pub enum Call<'a> {
     Create {
         side: u8,
@@ -21,6 +23,10 @@ pub enum Call<'a> {
         tables: &'a Tables,
         instant: u32,
         question: Question,
+    },
+    Make {
+        permanent: &'a [u8],
+        product: Product,
     },
 }
 
@@ -38,16 +44,18 @@ struct Asked<'a> {
     instant: u32,
 }
 
-/// A round under way, and the record that the last question left.
+/// A round under way, and the record and the output that the last call left.
 struct Round<'a, P: Player> {
     player: &'a mut P,
     random: Random,
     most: usize,
     record: Vec<u8>,
+    output: Vec<u8>,
 }
 
-/// The small histories of a round.
+/// The small histories of a round that are asked about, and those of which baselines are derived.
 const HISTORIES: usize = 240;
+const DERIVED: usize = 40;
 
 /// Plays one round of every sort of call, at tables of at most so many records, 40 or more.
 pub fn round<P: Player>(player: &mut P, seed: u64, most: usize) -> Result<(), P::Fault> {
@@ -56,13 +64,16 @@ pub fn round<P: Player>(player: &mut P, seed: u64, most: usize) -> Result<(), P:
         random: Random::new(seed),
         most,
         record: vec![],
+        output: vec![],
     };
     round.creations()?;
     round.lone_arrivals()?;
     round.damaged_bytes()?;
     round.delivery()?;
     round.histories()?;
-    round.crowd()
+    round.crowd()?;
+    round.derived()?;
+    round.many_derived()
 }
 
 impl<P: Player> Round<'_, P> {
@@ -259,5 +270,64 @@ impl<P: Player> Round<'_, P> {
         questions
             .into_iter()
             .try_for_each(|question| self.ask(&asked, question))
+    }
+
+    /// Plays the derived baselines or the listing of a table.
+    fn make(&mut self, permanent: &[u8], product: Product) -> Result<(), P::Fault> {
+        let call = Call::Make { permanent, product };
+        self.player.call(&mut self.output, &call)
+    }
+
+    /// Plays derived baselines and the listing of a table, now and then into a new output.
+    fn products(&mut self, permanent: &[u8], lengths: &[usize]) -> Result<(), P::Fault> {
+        for product in [Product::Derived, Product::Listing] {
+            if self.random.below(8) == 0 {
+                let length = self.random.pick(lengths);
+                self.output = vec![self.random.byte(); length];
+            }
+            self.make(permanent, product)?;
+        }
+        Ok(())
+    }
+
+    /// Plays derived baselines and listings of small histories, spoiled and of the other side too.
+    fn derived(&mut self) -> Result<(), P::Fault> {
+        let mut history = History::new(&mut self.random);
+        let long = bytes_of(18);
+        let lengths = [0, 10, 31, 32, 255, 256, 480, long, long, long, long, 5000];
+        for _ in 0..DERIVED {
+            if self.random.below(8) == 0 {
+                history = History::new(&mut self.random);
+            }
+            history.change(&mut self.random);
+            let Tables {
+                permanent,
+                temporary,
+            } = history.tables();
+            self.products(permanent, &lengths)?;
+            let mut table = match self.random.below(8) {
+                0 => temporary.clone(),
+                1 => permanent[..self.random.below(40)].to_vec(),
+                _ => permanent.clone(),
+            };
+            supply::spoil(&mut self.random, &mut table);
+            self.products(&table, &lengths)?;
+        }
+        Ok(())
+    }
+
+    /// Plays derived baselines and listings of large histories: any one, and as many as fit or one more.
+    fn many_derived(&mut self) -> Result<(), P::Fault> {
+        let most = bytes_of(self.most);
+        let any = Tables::of(&supply::crowd(&mut self.random, self.most)).permanent;
+        let less = self.random.pick(&[0, 1, 2]);
+        let tables = [any, apart(self.most as u32 + 1 - less)];
+        for table in tables {
+            let length = self.random.pick(&[most - 1, most, most + 224, 65_536]);
+            self.output = vec![self.random.byte(); length];
+            self.make(&table, Product::Derived)?;
+            self.make(&table, Product::Listing)?;
+        }
+        Ok(())
     }
 }

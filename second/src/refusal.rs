@@ -26,6 +26,7 @@ pub enum Refusal {
     TwoAnchors = 21,
     Withdrawn = 22,
     Buffer = 23,
+    Derived = 24,
 }
 
 impl Refusal {

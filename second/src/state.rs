@@ -111,17 +111,29 @@ impl State {
         State { life, properties }
     }
 
-    /// Answers the state as the record of an instant; what nothing mentions is nil, unknown.
+    /// Answers the state as the record of an instant.
     pub fn record(&self, instant: Instant) -> Record {
+        let period = Span {
+            begin: Some(instant),
+            end: None,
+        };
+        self.written(STATE, Sequence(0), period)
+    }
+
+    /// Answers the state as the BASELINE of a period.
+    pub fn baseline(&self, sequence: Sequence, period: Span) -> Record {
+        self.written(Kind::Baseline.byte(), sequence, period)
+    }
+
+    /// Answers the state as a record of a kind, which nobody corrected; what nothing mentions is nil,
+    /// unknown.
+    fn written(&self, kind: u8, sequence: Sequence, period: Span) -> Record {
         let head = Head {
-            kind: STATE,
+            kind,
             flags: 0,
             correction: Correction(0),
-            sequence: Sequence(0),
-            period: Span {
-                begin: Some(instant),
-                end: None,
-            },
+            sequence,
+            period,
             life: self.life,
             spare: [0; 8],
         };

@@ -63,7 +63,7 @@ fn uncancelled(random: &mut Random, kind: Kind) -> Case {
 }
 
 /// Makes eight sound parts, enough of them mentioned for the kind.
-fn parts(random: &mut Random, kind: Kind) -> Area {
+pub fn parts(random: &mut Random, kind: Kind) -> Area {
     let sound = sample::sound_parts();
     let (mut area, sure) = (sample::mentions(), random.below(8));
     for (index, part) in area.iter_mut().enumerate() {

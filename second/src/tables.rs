@@ -20,6 +20,13 @@ pub enum Question {
     Property(u8),
 }
 
+/// What is made of a permanent table, into an output.
+#[derive(Clone, Copy, Debug, PartialEq)]
+pub enum Product {
+    Derived,
+    Listing,
+}
+
 impl Tables {
     /// Makes the full tables of some cases, each of which goes to its side and its place.
     pub fn of(cases: &[Case]) -> Tables {

@@ -3,26 +3,30 @@
 mod anchors;
 mod areas;
 mod asking;
-mod brief;
+pub mod brief;
 mod cancelled;
 mod chance;
 mod content;
 mod creation;
 mod crowds;
+pub mod derived;
+pub mod deriving;
 mod examples;
 mod faults;
 mod feeds;
 mod filing;
 pub mod format;
+mod listed;
 mod lives;
 mod overlays;
 mod parts;
 mod refusals;
 mod revivals;
 mod rooms;
-mod rules;
+pub mod rules;
 pub mod sample;
 mod slices;
+pub mod themes;
 mod times;
 
 use crate::arrival::{self, Arrival};
@@ -49,8 +53,8 @@ struct Ask {
     answer: String,
 }
 
-/// What the lines so far have made: the buffer, the feature, both tables, the instant and the record,
-/// and the table as it was before the last ask for its check or a change.
+/// What the lines so far have made: the buffer, the feature, both tables, the instant, the record and
+/// the output, and the table as it was before the last ask for its check or a change.
 #[derive(Default)]
 struct Made {
     buffer: Vec<u8>,
@@ -60,9 +64,11 @@ struct Made {
     before: Vec<u8>,
     instant: u32,
     record: Vec<u8>,
+    output: Vec<u8>,
 }
 
-/// All asks in order, what their lines have made, and whether a title has come since the last record.
+/// All asks in order, what their lines have made, and whether a title has come since the last record or
+/// output.
 #[derive(Default)]
 pub struct Script {
     made: Made,
@@ -98,6 +104,8 @@ pub fn all() -> Script {
     overlays::add(&mut script);
     revivals::add(&mut script);
     crowds::add(&mut script);
+    derived::add(&mut script);
+    listed::add(&mut script);
     script
 }
 
@@ -124,6 +132,11 @@ impl Player for Script {
             } => {
                 self.ask_question(tables, *instant, *question, place);
                 place.clone_from(&self.made.record);
+                return Ok(());
+            }
+            Call::Make { permanent, product } => {
+                self.ask_product(*product, permanent, place);
+                place.clone_from(&self.made.output);
                 return Ok(());
             }
         }
@@ -298,6 +311,7 @@ mod tests {
     use crate::property::{decode, find, properties};
     use crate::question::{permanent_state, property, snapshot};
     use crate::slice;
+    use crate::tables::Product;
     use std::collections::BTreeMap;
 
     /// The seeds of random calls that the gate has.
@@ -332,6 +346,7 @@ mod tests {
                 "x" => std::mem::swap(&mut self.table, &mut self.other),
                 "i" => self.instant = u32::from_be_bytes(bytes.try_into().unwrap()),
                 "l" => self.record = vec![bytes[2]; place(&[0, bytes[0], bytes[1]])],
+                "o" => self.output = vec![bytes[3]; place(bytes)],
                 _ => return false,
             }
             true
@@ -344,6 +359,8 @@ mod tests {
                 "r" => find(&properties(&self.buffer)).to_string(),
                 "s" => number_of(slice::check(&self.buffer, &self.feature, bytes[0])).to_string(),
                 "g" | "n" | "v" => self.answer_of_instant(letter, bytes),
+                "e" => self.answer_of_output(Product::Derived),
+                "y" => self.answer_of_output(Product::Listing),
                 _ => self.answer_of_table(letter, bytes),
             }
         }
@@ -358,6 +375,13 @@ mod tests {
                 _ => asking::found(property(table, other, instant, bytes[0])),
             };
             answer + &changes(&before, &self.record)
+        }
+
+        /// Answers a line that asks for something made of the table.
+        fn answer_of_output(&mut self, product: Product) -> String {
+            let before = self.output.clone();
+            let answer = product.make(&self.table, &mut self.output);
+            answer + &changes(&before, &self.output)
         }
 
         /// Answers a line that asks about the table.
@@ -406,59 +430,70 @@ mod tests {
     /// Two runs give the same bytes, within the sizes wanted.
     #[test]
     fn the_streams_are_the_same_each_time_and_small() {
-        let (first, second) = (all(), all());
-        assert!(first.input() == second.input() && first.answers() == second.answers());
-        for script in (1..=SEEDS).map(random).chain([first]) {
-            assert!(script.input().len() <= 2_097_152);
-            assert!(script.answers().len() <= 1_048_576);
+        let (one, other) = (all(), all());
+        assert!(one.input() == other.input() && one.answers() == other.answers());
+        for script in (1..=SEEDS).map(random).chain([one]) {
+            assert!(script.input().len() <= 2_621_440);
+            assert!(script.answers().len() <= 1_900_544);
             assert!(script.input().is_ascii());
         }
     }
 
-    /// A hundred asks or more for each answer, twenty for each about an instant, and no other answer.
-    #[test]
-    fn every_answer_is_well_represented() {
-        let script = all();
+    /// Answers how many asks have each answer, by letter and word.
+    fn counts(script: &Script) -> BTreeMap<(String, String), usize> {
         let mut counts = BTreeMap::new();
-        for ask in script
-            .asks()
-            .filter(|ask| "smakgnv".contains(&ask.line[..1]))
-        {
+        for ask in script.asks() {
             let word = ask.answer.split(' ').next().unwrap();
-            *counts.entry((&ask.line[..1], word)).or_insert(0) += 1;
+            let key = (ask.line[..1].to_string(), word.to_string());
+            *counts.entry(key).or_insert(0) += 1;
         }
+        counts
+    }
+
+    /// Holds that each letter has so many asks or more for each of the words, and no other answer.
+    fn hold_answers(script: &Script, letters: &str, expected: &[(&str, &str, usize)]) {
+        let mut counts = counts(script);
+        counts.retain(|(letter, _), _| letters.contains(letter));
         let mut answers = 0;
-        for (letter, words) in [
-            ("s", "0 9 10 11 12 13 14 15 16"),
-            ("m", "made 1 2"),
-            ("k", "0 1 2 3 4 5 6 7"),
-            ("a", "added replaced superseded repeat 1 2 3 4 5 6 7"),
-            ("a", "9 10 11 12 13 14 15 16 17 18"),
-            ("g", "written 1 2 3 4 5 6 7 19 20 21 22 23"),
-            ("n", "written 1 2 3 4 5 6 7 8 19 20 21 22 23"),
-            (
-                "v",
-                "permanent temporary unmentioned 1 2 3 4 5 6 7 8 19 20 21 22",
-            ),
-        ] {
+        for &(letter, words, least) in expected {
             for word in words.split(' ') {
-                let least = if "gnv".contains(letter) { 20 } else { 100 };
-                assert!(counts[&(letter, word)] >= least, "{letter}: {word}");
+                let count = counts.get(&(letter.to_string(), word.to_string()));
+                assert!(
+                    count.is_some_and(|&count| count >= least),
+                    "{letter} {word}: {count:?}"
+                );
                 answers += 1;
             }
         }
         assert_eq!(counts.len(), answers);
     }
 
+    /// A hundred asks or more for each answer, twenty for each about an instant, ten for each about
+    /// derived baselines and listings, and no other answer.
+    #[test]
+    fn every_answer_is_well_represented() {
+        let expected = [
+            ("s", "0 9 10 11 12 13 14 15 16", 100),
+            ("m", "made 1 2", 100),
+            ("k", "0 1 2 3 4 5 6 7", 100),
+            ("a", "added replaced superseded repeat 1 2 3 4 5 6 7", 100),
+            ("a", "9 10 11 12 13 14 15 16 17 18", 100),
+            ("g", "written 1 2 3 4 5 6 7 19 20 21 22 23", 20),
+            ("n", "written 1 2 3 4 5 6 7 8 19 20 21 22 23", 20),
+            ("v", "permanent temporary unmentioned", 20),
+            ("v", "1 2 3 4 5 6 7 8 19 20 21 22", 20),
+            ("e", "derived 1 2 3 4 5 6 7 21 23", 10),
+            ("y", "text needs", 10),
+        ];
+        hold_answers(&all(), "smakgnvey", &expected);
+    }
+
     /// As many lines as answers.
     #[test]
     fn a_person_gets_a_line_for_each_ask() {
         let script = all();
-        let asks = script
-            .listing()
-            .lines()
-            .filter(|line| line.contains(" -> "))
-            .count();
-        assert_eq!(asks, script.answers().lines().count());
+        let listing = script.listing();
+        let asks = listing.lines().filter(|line| line.contains(" -> "));
+        assert_eq!(asks.count(), script.answers().lines().count());
     }
 }

@@ -1,9 +1,9 @@
-// The questions about an instant, and the text of their answers, as the functions of `text` have it.
+// The questions about an instant, and the text of their answers, as the functions of `answers` have it.
+use crate::answers::put;
+use crate::answers::put_byte;
+use crate::answers::put_changes;
+use crate::answers::put_digits;
 use crate::lent::keep;
-use crate::text::put;
-use crate::text::put_byte;
-use crate::text::put_changes;
-use crate::text::put_digits;
 use numbers::Instant;
 use octets::byte;
 use state::Outcome;

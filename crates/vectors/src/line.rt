@@ -40,10 +40,10 @@ fn has_length(letter: u8, n: usize) -> bool {
         b'b' => (n % 2 == 1) & (n <= 1025),
         b'f' => (n % 2 == 1) & (n <= 129),
         b'p' => n % 4 == 1,
-        b't' | b'i' => n == 9,
+        b't' | b'i' | b'o' => n == 9,
         b'l' => n == 7,
         b'w' => (n % 2 == 1) & (7 <= n),
-        b'd' | b'r' | b'z' | b'a' | b'x' | b'g' | b'n' => n == 1,
+        b'd' | b'r' | b'z' | b'a' | b'x' | b'g' | b'n' | b'e' | b'y' => n == 1,
         b's' | b'k' | b'm' | b'v' => n == 3,
         _ => false,
     }

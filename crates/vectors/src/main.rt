@@ -10,6 +10,7 @@
 //   x                 the table and the other table are exchanged
 //   i INSTANT         the instant becomes this
 //   l LENGTH VALUE    the record becomes so many bytes, at most 512, each of this value
+//   o LENGTH VALUE    the output becomes so many bytes, at most 65,536, each of this value
 //   d                 asks for the value of the buffer as one property
 //   r                 asks for the check of the buffer as eight properties
 //   s SIDE            asks for the check of the buffer as a slice, against the feature and this side
@@ -19,14 +20,24 @@
 //   g                 asks for the permanent state of the table at the instant, into the record
 //   n                 asks for the snapshot of the table and the other one at the instant, into the record
 //   v PROPERTY        asks for the property of this number of the same tables at the instant
+//   e                 asks for the derived baselines of the table, into the output
+//   y                 asks for the listing of the table, into the output
 //
 // LENGTH and OFFSET have three pairs, that of a record two, INSTANT four. The answers to m and a end with
-// the bytes of the table that changed, those to g and n with those of the record.
+// the bytes of the table that changed, those to g and n with those of the record, those to e and y with
+// those of the output.
+mod answers;
 mod asking;
 mod lent;
 mod line;
-mod text;
+mod making;
 
+use crate::answers::put_arrival;
+use crate::answers::put_changes;
+use crate::answers::put_checked;
+use crate::answers::put_creation;
+use crate::answers::put_decoded;
+use crate::answers::put_eight;
 use crate::asking::ask_instant;
 use crate::lent::end_of;
 use crate::lent::fill;
@@ -43,12 +54,7 @@ use crate::line::double;
 use crate::line::pair;
 use crate::line::quadruple;
 use crate::line::triple;
-use crate::text::put_arrival;
-use crate::text::put_changes;
-use crate::text::put_checked;
-use crate::text::put_creation;
-use crate::text::put_decoded;
-use crate::text::put_eight;
+use crate::making::ask_output;
 use libc::STDIN_FILENO;
 use libc::STDOUT_FILENO;
 use numbers::Instant;
@@ -61,8 +67,8 @@ ghost use lib.ListN.{length};
 const BEFORE: usize = 131072;
 
 // How many bytes are in use: of the buffer, of the feature, of the table and of the other one, of the
-// table before the last question about it, of the record, and of the answers; where the table and the
-// other one begin; and the instant.
+// table before the last question about it, of the record, of the output, and of the answers; where the
+// table and the other one begin; and the instant.
 struct Used {
     buffer: usize,
     feature: usize,
@@ -72,6 +78,7 @@ struct Used {
     other: usize,
     before: usize,
     record: usize,
+    output: usize,
     instant: u32,
     answers: usize,
 }
@@ -248,6 +255,63 @@ fn obey_instant(
     next
 }
 
+// Makes the output as a letter that does so says.
+fn make_output(letter: u8, line: &[u8], output: &mut [u8], used: Used) -> Used {
+    let mut next = used;
+    if letter == b'o' {
+        next.output = lay(output, triple(line), pair(line, 3));
+    }
+    next
+}
+
+// Obeys a letter that concerns the output, and answers what is in use after it.
+fn obey_output(
+    letter: u8,
+    line: &[u8],
+    tables: &[u8],
+    output: &mut [u8],
+    out: &mut [u8],
+    used: Used,
+) -> Used {
+    let mut next = make_output(letter, line, output, used);
+    let table = part(tables, next.at, next.table);
+    let n = within(output, next.output);
+    next.answers = ask_output(letter, table, &mut output[0..n], out, next.answers);
+    next
+}
+
+// Obeys a letter that concerns the instant, the record, the output or both tables, and answers what is in
+// use after it.
+fn obey_question(
+    letter: u8,
+    line: &[u8],
+    tables: &[u8],
+    record: &mut [u8],
+    output: &mut [u8],
+    out: &mut [u8],
+    used: Used,
+) -> Used {
+    let next = obey_instant(letter, line, tables, record, out, used);
+    obey_output(letter, line, tables, output, out, next)
+}
+
+// Obeys a letter that concerns the tables, the instant, the record or the output, and answers what is in
+// use after it.
+fn obey_tables(
+    letter: u8,
+    line: &[u8],
+    buffer: &[u8],
+    feature: &[u8],
+    tables: &mut [u8],
+    record: &mut [u8],
+    output: &mut [u8],
+    out: &mut [u8],
+    used: Used,
+) -> Used {
+    let next = obey_table(letter, line, buffer, feature, tables, out, used);
+    obey_question(letter, line, tables, record, output, out, next)
+}
+
 // Obeys a line, and answers what is in use after it. A line that is no command changes nothing.
 fn obey(
     line: &[u8],
@@ -255,13 +319,23 @@ fn obey(
     feature: &mut [u8],
     tables: &mut [u8],
     record: &mut [u8],
+    output: &mut [u8],
     out: &mut [u8],
     used: Used,
 ) -> Used {
     let letter = command(line);
-    let next = obey_table(letter, line, buffer, feature, tables, out, used);
-    let last = obey_instant(letter, line, tables, record, out, next);
-    obey_buffer(letter, line, buffer, feature, out, last)
+    let next = obey_tables(
+        letter,
+        line,
+        buffer,
+        feature,
+        tables,
+        record,
+        output,
+        out,
+        used,
+    );
+    obey_buffer(letter, line, buffer, feature, out, next)
 }
 
 // Obeys each line of the input, and answers how many bytes of answers there are.
@@ -271,6 +345,7 @@ fn run(
     feature: &mut [u8],
     tables: &mut [u8],
     record: &mut [u8],
+    output: &mut [u8],
     out: &mut [u8],
 ) -> usize
     ensures { λ r. ⌜ r ≤ length (now (out .exit)) ⌝ }
@@ -284,6 +359,7 @@ fn run(
         other: 0,
         before: 0,
         record: 0,
+        output: 0,
         instant: 0,
         answers: 0,
     };
@@ -291,24 +367,33 @@ fn run(
     while at < input.len() {
         let end = bytes::scan::find(input, at, input.len(), b'\n');
         let next = end + 1;
-        used = obey(&input[at..end], buffer, feature, tables, record, out, used);
+        used = obey(
+            &input[at..end],
+            buffer,
+            feature,
+            tables,
+            record,
+            output,
+            out,
+            used,
+        );
         at = next;
     }
     within(out, used.answers)
 }
 
 // Room for the input.
-fn room() -> [u8; 2097152]
-    ensures { λ r. ⌜ 2097152 ≡ length r ⌝ }
+fn room() -> [u8; 2621440]
+    ensures { λ r. ⌜ 2621440 ≡ length r ⌝ }
 {
-    [0; 2097152]
+    [0; 2621440]
 }
 
 // Room for the answers.
-fn answer_room() -> [u8; 1048576]
-    ensures { λ r. ⌜ 1048576 ≡ length r ⌝ }
+fn answer_room() -> [u8; 1900544]
+    ensures { λ r. ⌜ 1900544 ≡ length r ⌝ }
 {
-    [0; 1048576]
+    [0; 1900544]
 }
 
 // Obeys the commands of standard input, and writes the answers.
@@ -319,6 +404,7 @@ fn main() {
     let mut feature = [0u8; 64];
     let mut tables = [0u8; 196608];
     let mut record = [0u8; 512];
+    let mut output = [0u8; 65536];
     let mut out = answer_room();
     let n = run(
         &input[..got],
@@ -326,6 +412,7 @@ fn main() {
         &mut feature,
         &mut tables,
         &mut record,
+        &mut output,
         &mut out,
     );
     io::write_all(STDOUT_FILENO, &out[0..n]);

@@ -12,11 +12,14 @@ const UNKNOWN: Part = {
     part
 };
 
+/// The bytes before the times of a state that is written as a record.
+const STATE: [u8; 8] = [4, 0, 0, 0, 0, 0, 0, 0];
+
 /// The times of a record and where they stand in it.
-const BEGIN: usize = 8;
-const END: usize = 12;
-const LIFE_BEGIN: usize = 16;
-const LIFE_END: usize = 20;
+pub const BEGIN: usize = 8;
+pub const END: usize = 12;
+pub const LIFE_BEGIN: usize = 16;
+pub const LIFE_END: usize = 20;
 
 /// The table of a property's bytes, and where they begin in it, if anything mentions it.
 type Place = Option<(Side, usize)>;
@@ -50,8 +53,8 @@ struct Line<'a> {
 pub fn permanent_state(permanent: &[u8], instant: u32, record: &mut [u8]) -> Result<(), Refusal> {
     let records = check_table(permanent, 0..=0)?;
     let record = check_asked(instant, record)?;
-    let (life, parts) = Line::at(records, instant)?.state()?;
-    write(record, instant, life, &parts);
+    let (life, parts) = state_at(by_kind(records), instant)?;
+    write(record, STATE, [instant, NONE, life[0], life[1]], &parts);
     Ok(())
 }
 
@@ -59,7 +62,7 @@ pub fn permanent_state(permanent: &[u8], instant: u32, record: &mut [u8]) -> Res
 pub fn snapshot(tables: [&[u8]; 2], instant: u32, record: &mut [u8]) -> Result<(), Refusal> {
     let [lasting, passing] = check_tables(tables)?;
     let record = check_asked(instant, record)?;
-    let (life, mut parts) = Line::at(lasting, instant)?.state()?;
+    let (life, mut parts) = state_at(by_kind(lasting), instant)?;
     for delta in passing.iter().filter(|delta| holds(delta, instant)) {
         for (latest, part) in parts.iter_mut().zip(parts_of(delta)) {
             if part[0] != 0 {
@@ -67,7 +70,7 @@ pub fn snapshot(tables: [&[u8]; 2], instant: u32, record: &mut [u8]) -> Result<(
             }
         }
     }
-    write(record, instant, life, &parts);
+    write(record, STATE, [instant, NONE, life[0], life[1]], &parts);
     Ok(())
 }
 
@@ -78,7 +81,7 @@ pub fn property(tables: [&[u8]; 2], instant: u32, number: u8) -> Result<Place, R
     if instant == NONE || property > 7 {
         return Err(Refusal::Asked);
     }
-    let last = Line::at(lasting, instant)?.last_mention(property)?;
+    let last = Line::at(by_kind(lasting), instant)?.last_mention(property)?;
     let is_mention = |delta: &Record| holds(delta, instant) && parts_of(delta)[property][0] != 0;
     let place = |index: usize| HEADER + 224 * index + 32 + 24 * property;
     if let Some(index) = passing.iter().rposition(is_mention) {
@@ -90,6 +93,17 @@ pub fn property(tables: [&[u8]; 2], instant: u32, number: u8) -> Result<Place, R
             .expect("a record of the table");
         (Side::Permanent, place(index))
     }))
+}
+
+/// Answers the life times and the properties of the permanent state of sound records, or 21, 20 or 22.
+pub fn state_at(kinds: [&[Record]; 2], instant: u32) -> Result<([u32; 2], [&Part; 8]), Refusal> {
+    Line::at(kinds, instant)?.state()
+}
+
+/// Answers the BASELINEs and the PERMDELTAs of sound records.
+pub fn by_kind(records: &[Record]) -> [&[Record]; 2] {
+    let (baselines, changes) = records.split_at(records.partition_point(|one| one[0] == 1));
+    [baselines, changes]
 }
 
 /// Answers the records of both tables, or the first refusal, 1 to 8.
@@ -111,7 +125,7 @@ fn check_asked(instant: u32, record: &mut [u8]) -> Result<&mut Record, Refusal> 
 }
 
 /// Answers the eight properties of a record.
-fn parts_of(record: &Record) -> &[Part; 8] {
+pub fn parts_of(record: &Record) -> &[Part; 8] {
     let (parts, _) = record[32..].as_chunks();
     parts.try_into().expect("192 bytes are eight properties")
 }
@@ -123,14 +137,13 @@ fn holds(record: &Record, instant: u32) -> bool {
 }
 
 /// Answers the instant and the sequence number of a change as one number that rises as they do.
-fn turn(record: &Record) -> u64 {
+pub fn turn(record: &Record) -> u64 {
     u64::from(number(record, BEGIN)) << 32 | u64::from(number(record, 4))
 }
 
 impl<'a> Line<'a> {
     /// Answers what is applied at an instant, or 21 or 20.
-    fn at(records: &'a [Record], instant: u32) -> Result<Line<'a>, Refusal> {
-        let (baselines, changes) = records.split_at(records.partition_point(|one| one[0] == 1));
+    fn at([baselines, changes]: [&'a [Record]; 2], instant: u32) -> Result<Line<'a>, Refusal> {
         let mut anchors = baselines.iter().filter(|one| holds(one, instant));
         let (anchor, after) = if let Some(baseline) = anchors.next() {
             (baseline, turn(baseline) | u64::from(u32::MAX))
@@ -224,15 +237,10 @@ impl<'a> Line<'a> {
     }
 }
 
-/// Writes a state as the record of an instant.
-fn write(record: &mut Record, instant: u32, life: [u32; 2], parts: &[&Part; 8]) {
-    record[..8].copy_from_slice(&[4, 0, 0, 0, 0, 0, 0, 0]);
-    for (at, time) in [
-        (BEGIN, instant),
-        (END, NONE),
-        (LIFE_BEGIN, life[0]),
-        (LIFE_END, life[1]),
-    ] {
+/// Writes a state as a record: the bytes before the times, the times, and the properties.
+pub fn write(record: &mut Record, key: [u8; 8], times: [u32; 4], parts: &[&Part; 8]) {
+    record[..BEGIN].copy_from_slice(&key);
+    for (at, time) in [BEGIN, END, LIFE_BEGIN, LIFE_END].into_iter().zip(times) {
         record[at..at + 4].copy_from_slice(&time.to_be_bytes());
     }
     record[24..32].fill(0);

@@ -14,6 +14,9 @@ pub const TABLE_BYTES: usize = 65_536;
 /// The longest record the format allows.
 pub const RECORD_BYTES: usize = 512;
 
+/// The longest output the format allows.
+pub const OUTPUT_BYTES: usize = 65_536;
+
 /// The line that exchanges the table with the other one.
 pub const EXCHANGE: &str = "x";
 
@@ -96,6 +99,12 @@ pub fn fill_lines(new: &[u8], fill: u8) -> Vec<String> {
 pub fn record_line(length: usize, value: u8) -> String {
     let [_, a, b] = three(length);
     line('l', &[a, b, value])
+}
+
+/// Answers the line that makes an output of one value.
+pub fn output_line(length: usize, value: u8) -> String {
+    let [a, b, c] = three(length);
+    line('o', &[a, b, c, value])
 }
 
 /// Answers the line that names an instant.
@@ -190,11 +199,12 @@ mod tests {
         assert_eq!(either_lines(&zeros, &[], &[1], &[]), ["t00000000"]);
     }
 
-    /// Two bytes and a value; four bytes.
+    /// Two bytes and a value; three bytes and a value; four bytes.
     #[test]
-    fn records_and_instants_are_written_as_the_format_says() {
+    fn records_outputs_and_instants_are_written_as_the_format_says() {
         assert_eq!(record_line(224, 165), "l00e0a5");
         assert_eq!(record_line(512, 0), "l020000");
+        assert_eq!(output_line(65_536, 165), "o010000a5");
         assert_eq!(instant_line(258), "i00000102");
     }
 

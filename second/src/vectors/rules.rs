@@ -130,7 +130,7 @@ fn ask_each_way(script: &mut Script, table: &[u8]) {
 }
 
 /// Answers the table spoiled by each fault, each pair and chains, with the number expected.
-fn spoiled(base: &[u8]) -> Vec<(Vec<u8>, u8)> {
+pub fn spoiled(base: &[u8]) -> Vec<(Vec<u8>, u8)> {
     let mut tables = vec![(base.to_vec(), 0)];
     for first in FAULTS {
         tables.push(((first.spoil)(base.to_vec()), first.number));

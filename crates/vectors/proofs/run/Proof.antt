@@ -7,11 +7,11 @@ use Rattle.vectors.proofs.run.Statement.{statement}
 use Rattle.vectors.proofs.run.Tie as tie
 
 abbrev Inv-loop : tie.InvT-loop
-Inv-loop input buffer₀ feature₀ tables₀ record₀ out₀ used₀ at₀ buffer feature tables «record» out used at =
-    (length buffer ≡ length buffer₀) × (length feature ≡ length feature₀) × (length tables ≡ length tables₀) × (length «record» ≡ length record₀) × (length out ≡ length out₀)
+Inv-loop input buffer₀ feature₀ tables₀ record₀ output₀ out₀ used₀ at₀ buffer feature tables «record» output out used at =
+    (length buffer ≡ length buffer₀) × (length feature ≡ length feature₀) × (length tables ≡ length tables₀) × (length «record» ≡ length record₀) × (length output ≡ length output₀) × (length out ≡ length out₀)
 
 abbrev μ-loop : tie.MeasureT-loop
-μ-loop input buffer₀ feature₀ tables₀ record₀ out₀ used₀ at₀ buffer feature tables «record» out used at = length input - at
+μ-loop input buffer₀ feature₀ tables₀ record₀ output₀ out₀ used₀ at₀ buffer feature tables «record» output out used at = length input - at
 
 pub run-spec : {M : Type 1} → statement M
 run-spec =
@@ -29,6 +29,7 @@ run-spec =
     (λ c. search needs)
     (λ c. search needs)
     (λ c κs. search needs)
+    (λ c. search needs)
     (λ c. search needs)
     (λ c. search needs)
     (λ c. search needs)

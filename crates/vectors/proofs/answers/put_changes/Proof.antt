@@ -1,10 +1,10 @@
--- `vectors::text::put_changes` is safe and ends. The loop's invariant: what is written to keeps its length. Assumes nothing.
+-- `vectors::answers::put_changes` is safe and ends. The loop's invariant: what is written to keeps its length. Assumes nothing.
 use Prim.Native.Nat.{_-_}
 use mathlib.Core.Path.{_≡_}
 use lib.ListN.{length}
 use borrow.Author.Needs.{needs}
-use Rattle.vectors.proofs.text.put_changes.Statement.{statement}
-use Rattle.vectors.proofs.text.put_changes.Tie as tie
+use Rattle.vectors.proofs.answers.put_changes.Statement.{statement}
+use Rattle.vectors.proofs.answers.put_changes.Tie as tie
 
 abbrev Inv-loop : tie.InvT-loop
 Inv-loop out₀ at old new a₀ i₀ t7 out a i = length out ≡ length out₀

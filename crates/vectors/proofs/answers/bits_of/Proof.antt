@@ -1,4 +1,4 @@
--- `vectors::text::bits_of` is safe. A double that equals itself is no NaN. Assumes nothing.
+-- `vectors::answers::bits_of` is safe. A double that equals itself is no NaN. Assumes nothing.
 use Prim.Native.Nat.{ℕ}
 use mathlib.Core.Path.{_≡_}
 use mathlib.Core.Bool.{true, not}
@@ -6,8 +6,8 @@ use native.Mathlib.Omega.{arith}
 use lib.Dec.{T}
 use lib.Ieee.{Float, nan, inf, fin, eq, isNan}
 use borrow.Author.Needs.{needs}
-use Rattle.vectors.proofs.text.bits_of.Statement.{statement}
-use Rattle.vectors.proofs.text.bits_of.Tie as tie
+use Rattle.vectors.proofs.answers.bits_of.Statement.{statement}
+use Rattle.vectors.proofs.answers.bits_of.Tie as tie
 
 no-nan : (x : Float) → eq x x ≡ true → T (not (isNan x))
 unfolding eq isNan

@@ -1,4 +1,4 @@
--- `vectors::text::magnitude` is safe: the number is widened first, so that its negation fits. Assumes nothing.
+-- `vectors::answers::magnitude` is safe: the number is widened first, so that its negation fits. Assumes nothing.
 use Prim.Native.Nat.{ℕ, suc, _<_, _^_}
 use mathlib.Core.Path.{_≡_, refl, ap, _∙_}
 use mathlib.Core.Bool.{true, false}
@@ -11,8 +11,8 @@ use mir.Val.{Fits, SFits, toZ, ofZ}
 use mir.ValLaws.{toZ-pos, toZ-ofZ}
 use borrow.Author.Needs.{needs}
 use borrow.Author.Tests.{ltb-true}
-use Rattle.vectors.proofs.text.magnitude.Statement.{statement}
-use Rattle.vectors.proofs.text.magnitude.Tie as tie
+use Rattle.vectors.proofs.answers.magnitude.Statement.{statement}
+use Rattle.vectors.proofs.answers.magnitude.Tie as tie
 
 below : (z : ℤ) → ltZ z (pos 0) ≡ true → pos 0 -ℤ z ≡ pos (suc (mag z))
 below (pos k) h = absurd (omega (arith, ltb-true k 0 h))

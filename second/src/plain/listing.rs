@@ -1,0 +1,52 @@
+//! The listing of a permanent table, without a heap.
+
+use super::derive::derive_by_sweeps;
+use super::state::{parts_of, BEGIN, END};
+use super::{number, Record, HEADER, MOST, NONE};
+use std::io::{self, Write};
+
+/// The bytes that baselines are derived into.
+const DERIVED: usize = HEADER + MOST * 224;
+
+/// The most bytes of a line: three numbers, eight digits, three spaces and a line feed.
+const LINE: usize = 3 + 10 + 10 + 8 + 4;
+
+/// Writes the listing into the first bytes of a place, if it fits; answers its length, as an error
+/// where it does not.
+pub fn list(permanent: &[u8], text: &mut [u8]) -> Result<usize, usize> {
+    let mut listing = [0; (MOST + 1) * LINE];
+    let mut rest = &mut listing[..];
+    write(permanent, &mut rest).expect("there is room for every line");
+    let left = rest.len();
+    let length = listing.len() - left;
+    let place = text.get_mut(..length).ok_or(length)?;
+    place.copy_from_slice(&listing[..length]);
+    Ok(length)
+}
+
+/// Writes the listing.
+fn write(permanent: &[u8], text: &mut &mut [u8]) -> io::Result<()> {
+    let mut derived = [0; DERIVED];
+    match derive_by_sweeps(permanent, &mut derived) {
+        Err(refusal) => writeln!(text, "refused {}", refusal.number()),
+        Ok(count) => {
+            writeln!(text, "derived {count}")?;
+            let (records, _) = derived[HEADER..].as_chunks();
+            records[..count]
+                .iter()
+                .try_for_each(|one| write_line(one, text))
+        }
+    }
+}
+
+/// Writes the line of a derived record.
+fn write_line(record: &Record, text: &mut &mut [u8]) -> io::Result<()> {
+    write!(text, "{} {} ", number(record, 4), number(record, BEGIN))?;
+    match number(record, END) {
+        NONE => write!(text, "- ")?,
+        end => write!(text, "{end} ")?,
+    }
+    let forms = parts_of(record).map(|part| b'0' + part[0]);
+    text.write_all(&forms)?;
+    writeln!(text)
+}
