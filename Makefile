@@ -1,5 +1,5 @@
 # make test     the gate: proves, tries the wrong programs, runs the programs, compares with the second program
-# make wrong    tries the further wrong programs, those under crates/*/wrong (over half an hour)
+# make wrong    tries the further wrong programs, those under crates/*/wrong (long: each costs a check of its crate)
 # make sample   proves and builds the program `vectors`, and asks it about samples/feed, samples/states and samples/slices
 # make list     proves and builds the program `listing`, and prints the listing of FILE, samples/runway.tsl if not said
 # make lib      proves the C interface and writes target/staticlib/libtimeslices.a, for x86-64
