@@ -1,57 +1,25 @@
--- The next change instant from bytes: what a record adds to the search for it, and that no time of a record lies above none. Assumes nothing.
-use Prim.Native.Nat.{ℕ, zero, suc, _+_, _≤_, _<_}
-use mathlib.Core.Path.{_≡_, refl, sym, ap, _∙_, subst}
+-- No change instant of a table lies above none: each is a time of four bytes. Assumes nothing.
+use Prim.Native.Nat.{ℕ, zero, suc, _≤_}
+use mathlib.Core.Path.{_≡_, refl, sym, ap, subst}
 use mathlib.Core.List.{List, [], _∷_}
-use mathlib.Core.Bool.{true, false}
 use mathlib.Core.Logic.{inl, inr, ⊎-elim}
 use native.Mathlib.Omega.{arith}
 use lib.ListN.{take, drop}
-use lib.Dec.{eqb}
-use borrow.Author.Tests.{ne-eqb}
 use Rattle.laws.specs.Lists.{pieces}
 use Rattle.laws.specs.Keyed.{In}
-use Rattle.laws.proofs.Tests.{and-false, pick-ind}
+use Rattle.laws.proofs.Tests.{pick-ind}
 use Rattle.laws.proofs.Lists.{map-in}
 use Rattle.octets.specs.Bytes.{beOf}
 use Rattle.octets.proofs.Runs.{Bytes}
 use Rattle.numbers.specs.Numbers.{noInstant}
 use Rattle.numbers.specs.declared.Instant.{Instant}
-use Rattle.slice.specs.Record.{baseline, permdelta, recordSize, kindOf, cancelledOf, periodOf, lifeOf, viewOf}
+use Rattle.slice.specs.Record.{baseline, permdelta, recordSize, periodOf, lifeOf, viewOf}
 use Rattle.slice.proofs.Times.{instant-most}
-use Rattle.table.specs.Header.{countOf, strideOf, roomOf, recordsOf, recordAt}
+use Rattle.table.specs.Header.{countOf, strideOf, recordsOf}
 use Rattle.history.specs.Counted.{counts}
 use Rattle.history.specs.Changes.{changesBy}
-use Rattle.history.specs.Soonest.{sooner, soonestOf, soonestFrom}
 use Rattle.history.proofs.Changes.{Bounded}
 use Rattle.state.specs.Asking.{slicesOf}
-use Rattle.state.proofs.Slices.{slices-at}
-
--- ---- one record
-module _ (from best : Instant) (stride : ℕ) (r : List ℕ) where
-  pub by-cancelled : cancelledOf r ≡ true → best ≡ soonestOf from best (changesBy (viewOf stride r))
-  unfolding changesBy counts viewOf
-  by-cancelled e = rw (e, and-false (eqb (kindOf r) baseline), and-false (eqb (kindOf r) permdelta))
-
-  module _ (counted : cancelledOf r ≡ false) where
-    pub by-baseline : kindOf r ≡ baseline
-        → sooner from (sooner from (sooner from best (periodOf r .begin)) (periodOf r .end)) (lifeOf r .end) ≡ soonestOf from best (changesBy (viewOf stride r))
-    unfolding changesBy counts viewOf
-    by-baseline k = rw (counted, k)
-
-    pub by-permdelta : kindOf r ≡ permdelta → sooner from best (periodOf r .begin) ≡ soonestOf from best (changesBy (viewOf stride r))
-    unfolding changesBy counts viewOf
-    by-permdelta k = rw (counted, k)
-
-    pub by-other : (kindOf r ≡ baseline → ⊥) → (kindOf r ≡ permdelta → ⊥) → best ≡ soonestOf from best (changesBy (viewOf stride r))
-    unfolding changesBy counts viewOf
-    by-other b d = rw (ne-eqb (kindOf r) baseline b, ne-eqb (kindOf r) permdelta d)
-
--- ---- the pass
-pub pass-turn : (from best next : Instant) (p : List ℕ) (i : ℕ) → i < countOf p → countOf p ≤ roomOf (recordSize (strideOf p)) p
-    → next ≡ soonestOf from best (changesBy (viewOf (strideOf p) (recordAt (recordSize (strideOf p)) i p)))
-    → soonestFrom from best (drop i (slicesOf p)) ≡ soonestFrom from next (drop (i + 1) (slicesOf p))
-pass-turn from best next p i h roomy e =
-    ap (soonestFrom from best) (slices-at p i h roomy) ∙ ap (λ (b : Instant). soonestFrom from b (drop (i + 1) (slicesOf p))) (sym e)
 
 -- ---- the times of a table of bytes
 bytes-take : (n : ℕ) (l : List ℕ) → Bytes l → Bytes (take n l)
@@ -60,7 +28,7 @@ bytes-take (suc n) [] h i = h i
 bytes-take (suc n) (x ∷ l) h zero = h 0
 bytes-take (suc n) (x ∷ l) h (suc i) = bytes-take n l (λ j. h (suc j)) i
 
-bytes-drop : (n : ℕ) (l : List ℕ) → Bytes l → Bytes (drop n l)
+pub bytes-drop : (n : ℕ) (l : List ℕ) → Bytes l → Bytes (drop n l)
 bytes-drop zero l h i = h i
 bytes-drop (suc n) [] h i = h i
 bytes-drop (suc n) (x ∷ l) h i = bytes-drop n l (λ j. h (suc j)) i

@@ -21,7 +21,7 @@ use Rattle.baselines.specs.Laid.{partFor, recordFor}
 two-back : (v : ℕ) → v < 65536 → (0 * 256 + v / 256 % 256) * 256 + v % 256 ≡ v
 two-back v h = omega arith
 
-four-back : (v : ℕ) → v < 4294967296 → (((0 * 256 + v / 256 / 256 / 256 % 256) * 256 + v / 256 / 256 % 256) * 256 + v / 256 % 256) * 256 + v % 256 ≡ v
+pub four-back : (v : ℕ) → v < 4294967296 → (((0 * 256 + v / 256 / 256 / 256 % 256) * 256 + v / 256 / 256 % 256) * 256 + v / 256 % 256) * 256 + v % 256 ≡ v
 four-back v h = omega arith
 
 -- a property that says bytes, as many as it has, which are a mention

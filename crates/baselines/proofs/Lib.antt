@@ -1,10 +1,15 @@
+pub mod Soonest
 pub mod Changes
 pub mod Pasted
 pub mod Standings
 pub mod Walked
 pub mod Decided
 pub mod Laid
+pub mod Carried
+pub mod Based
 pub mod Right
+pub mod Noted
+pub mod Reached
 pub mod DerivedTable
 pub mod ReadBack
 pub mod OneAnswer

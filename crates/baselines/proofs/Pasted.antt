@@ -1,6 +1,6 @@
 -- Bytes of a derived table: its header, and its records one by one. Assumes nothing.
 use Prim.Native.Nat.{ℕ, _+_, _≤_}
-use mathlib.Core.Path.{_≡_, refl, sym, ap, _∙_}
+use mathlib.Core.Path.{_≡_, refl, ap, _∙_}
 use mathlib.Core.List.{List, [], _∷_, _++_, map, append-assoc}
 use native.Mathlib.Nat.{zero-add}
 use native.Mathlib.Omega.{arith}
@@ -11,15 +11,9 @@ use Rattle.octets.specs.Writing.{bytesOf, pasted}
 use Rattle.octets.proofs.Writing.{pasted-length, pasted-then, pasted-whole}
 use Rattle.slice.specs.Record.{permanent}
 use Rattle.table.specs.Header.{featureOf, headerOf}
-use Rattle.numbers.specs.Numbers.{none}
-use Rattle.numbers.specs.declared.Instant.{Instant}
 use Rattle.slice.specs.Record.{Property, unmentioned, says}
-use Rattle.laws.specs.Lists.{joined}
-use Rattle.history.specs.State.{State}
-use Rattle.history.specs.Derived.{filledIn, baselineOf}
-use Rattle.state.specs.Written.{nilUnknown, propertyBytes, stateRecord}
-use Rattle.baselines.specs.Laid.{partFor, recordFor}
-use Rattle.baselines.specs.Steps.{drawnRecord}
+use Rattle.history.specs.Derived.{filledIn}
+use Rattle.state.specs.Written.{nilUnknown, propertyBytes}
 
 -- ---- the header
 -- it names a feature of 16 bytes
@@ -59,22 +53,21 @@ filled-by stride write own (unmentioned ∷ vs) = rw (own (nilUnknown stride), f
 filled-by stride write own (says b ∷ vs) = rw (own b, filled-by stride write own vs)
 
 -- bytes in the middle, written over
-over-middle : (a b c r : List ℕ) → length b ≡ length r → pasted (a ++ (b ++ c)) (length a) r ≡ a ++ (r ++ c)
+pub over-middle : (a b c r : List ℕ) → length b ≡ length r → pasted (a ++ (b ++ c)) (length a) r ≡ a ++ (r ++ c)
 over-middle a b c r e =
     let n : length (a ++ (b ++ c)) ≡ length a + (length b + length c) = length-append a (b ++ c) ∙ ap (λ (k : ℕ). length a + k) (length-append b c) in
     pasted-whole (a ++ (b ++ c)) r (length a) (omega arith)
     ∙ (λ i. take-at a (b ++ c) (length a) refl i ++ (r ++ (drop-past a (b ++ c) (length a) (length r) refl ∙ drop-at b c (length r) e) i))
 
-pub front-drawn : (stride n : ℕ) (begin end : Instant) (s : State)
-    → pasted (pasted (pasted (stateRecord stride begin s) 0 (1 ∷ 0 ∷ 0 ∷ 0 ∷ [])) 4 (bytesOf 4 n)) 12 (bytesOf 4 (end .0)) ≡ drawnRecord stride n begin end s
-unfolding stateRecord drawnRecord recordFor baselineOf
-front-drawn stride n begin end s =
-    let kind : List ℕ = 1 ∷ 0 ∷ 0 ∷ 0 ∷ [] in
-    let zeros : List ℕ = 0 ∷ 0 ∷ 0 ∷ 0 ∷ [] in
-    let behind : List (List ℕ) → List ℕ = λ l. bytesOf 4 (s .life .begin .0) ++ (bytesOf 4 (s .life .end .0) ++ (replicate 8 0 ++ joined l)) in
-    let rest : List ℕ = behind (map (propertyBytes stride) (s .properties)) in
-    let from : List ℕ = bytesOf 4 (begin .0) ++ (bytesOf 4 (none .0) ++ rest) in
-    ap (λ (d : List ℕ). pasted (pasted d 4 (bytesOf 4 n)) 12 (bytesOf 4 (end .0))) (over-middle [] (4 ∷ 0 ∷ 0 ∷ 0 ∷ []) (zeros ++ from) kind refl)
-    ∙ ap (λ (d : List ℕ). pasted d 12 (bytesOf 4 (end .0))) (over-middle kind zeros from (bytesOf 4 n) refl)
-    ∙ over-middle (kind ++ (bytesOf 4 n ++ bytesOf 4 (begin .0))) (bytesOf 4 (none .0)) rest (bytesOf 4 (end .0)) refl
-    ∙ ap (λ (l : List (List ℕ)). kind ++ (bytesOf 4 n ++ (bytesOf 4 (begin .0) ++ (bytesOf 4 (end .0) ++ behind l)))) (sym (filled-by stride (partFor stride) (λ b. refl) (s .properties)))
+-- the front of a record: four parts, one behind the other
+pub front-pasted : (d : List ℕ) (n begin end : ℕ) → 16 ≤ length d
+    → pasted (pasted (pasted (pasted d 0 (1 ∷ 0 ∷ 0 ∷ 0 ∷ [])) 4 (bytesOf 4 n)) 8 (bytesOf 4 begin)) 12 (bytesOf 4 end)
+    ≡ pasted d 0 (1 ∷ 0 ∷ 0 ∷ 0 ∷ bytesOf 4 n ++ (bytesOf 4 begin ++ bytesOf 4 end))
+front-pasted d n begin end h =
+    let a : List ℕ = 1 ∷ 0 ∷ 0 ∷ 0 ∷ [] in
+    let d₁ = pasted d 0 a in
+    let d₂ = pasted d₁ 4 (bytesOf 4 n) in
+    let n₁ : length d₁ ≡ length d = pasted-length d a 0 in
+    let n₂ : length d₂ ≡ length d = pasted-length d₁ (bytesOf 4 n) 4 ∙ n₁ in
+    pasted-then d₂ (bytesOf 4 begin) (bytesOf 4 end) 8 12 refl (omega arith)
+    ∙ (pasted-then d₁ (bytesOf 4 n) (bytesOf 4 begin ++ bytesOf 4 end) 4 8 refl (omega arith) ∙ pasted-then d a (bytesOf 4 n ++ (bytesOf 4 begin ++ bytesOf 4 end)) 0 4 refl (omega arith))

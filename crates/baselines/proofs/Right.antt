@@ -19,16 +19,14 @@ use Rattle.numbers.specs.Numbers as numbers
 use Rattle.numbers.specs.Numbers.{noInstant}
 use Rattle.numbers.specs.declared.Instant.{Instant}
 use Rattle.property.specs.Eight.{mentioned}
-use Rattle.slice.specs.Record.{baseline, permdelta, recordSize, partsOf, keyLess, sameKey, Property, unmentioned, says, propertyOf, Slice, viewOf}
+use Rattle.slice.specs.Record.{baseline, permdelta, partsOf, keyLess, sameKey, Property, unmentioned, says, propertyOf, Slice, viewOf}
 use Rattle.slice.specs.Rules.{timesOf, timesRight}
 use Rattle.slice.specs.declared.check.Checked.the-variants.{Sound}
-use Rattle.slice.proofs.Sound.{sound-record}
 use Rattle.slice.proofs.Times.{instant-most, permdelta-times}
-use Rattle.table.specs.Header.{sideOf, strideOf, recordsOf}
+use Rattle.table.specs.Header.{strideOf}
 use Rattle.table.specs.Rules.{checkTable}
 use Rattle.table.specs.declared.check.Sides.the-variants.{Permanent}
-use Rattle.table.proofs.Sound.{sound-table}
-use Rattle.table.proofs.Stays.{Up, all-good}
+use Rattle.table.proofs.Stays.{Up, sound-in}
 use Rattle.history.specs.Counted.{counts, sliceKey}
 use Rattle.history.specs.State.{State, started}
 use Rattle.history.specs.Permanent.{known, permanentAt}
@@ -50,7 +48,7 @@ use Rattle.baselines.specs.Deriving.{derivedRecords}
 use Rattle.baselines.proofs.Changes.{bytes-records, slices-bounded}
 use Rattle.baselines.proofs.Laid.{Said, Holdable, view-laid}
 
-low : (x : ℕ) → x ≤ noInstant → x < 4294967296
+pub low : (x : ℕ) → x ≤ noInstant → x < 4294967296
 unfolding noInstant
 low x h = omega arith
 
@@ -81,8 +79,7 @@ module _ (p : List ℕ) (bytes : Bytes p) (sound : checkTable Permanent p ≡ So
   unfolding viewOf
   counted-right d m c =
       let (r, n, e) = slice-view p d m in
-      let good = all-good (strideOf p) (sideOf p) (recordsOf (recordSize (strideOf p)) p) (sound-table Permanent p sound .sound) r n in
-      ⊎-elim (λ x. contrary (ap (λ s. s .cancelled) e ∙ x .cancelled) c) (λ k. ap timesRight e ∙ k .times) (sound-record (strideOf p) (sideOf p) r good .rest)
+      ⊎-elim (λ x. contrary (ap (λ s. s .cancelled) e ∙ x .cancelled) c) (λ k. ap timesRight e ∙ k .times) (sound-in Permanent p sound r n .rest)
 
   pub timely : Timely slices
   unfolding counts timesRight
@@ -103,17 +100,17 @@ module _ (p : List ℕ) (bytes : Bytes p) (sound : checkTable Permanent p ≡ So
     there : (d : Slice) → In d (first ∷ others) → In d slices
     there d m = line-in t slices d (subst (λ l. In d l) (sym (known-line t slices s e .2)) m)
 
-    state-eight : length (s .properties) ≡ 8
+    pub state-eight : length (s .properties) ≡ 8
     state-eight =
         ap (λ u. length (u .properties)) (known-line t slices s e .3)
         ∙ applied-length 8 others (started first) (slice-eight p first (there first (inl refl))) (λ d m. slice-eight p d (there d (inr m)))
 
-    state-said : (b : List ℕ) → In (says b) (s .properties) → (length b ≡ strideOf p) × (mentioned b ≡ true)
+    pub state-said : (b : List ℕ) → In (says b) (s .properties) → (length b ≡ strideOf p) × (mentioned b ≡ true)
     state-said b m =
         let (d, n, k) = line-within first others (says b) (subst (λ u. In (says b) (u .properties)) (known-line t slices s e .3) m) in
         (slice-sized p Permanent sound d (there d n) b k, slice-mentioned d (there d n) b k)
 
-    state-life : (s .life .begin .0 ≤ noInstant) × (s .life .end .0 ≤ noInstant)
+    pub state-life : (s .life .begin .0 ≤ noInstant) × (s .life .end .0 ≤ noInstant)
     state-life = rw (known-line t slices s e .3, line-begin first others, line-end first others) (begin (lastOf (tells 8) none (first ∷ others)) refl, end (lastOf (tells 9) none (first ∷ others)) refl)
       where
         begin : (v : Option Slice) → lastOf (tells 8) none (first ∷ others) ≡ v → beginIn v .0 ≤ noInstant

@@ -5,6 +5,7 @@ use mathlib.Core.List.{List}
 use mathlib.Core.Bool.{Bool, true, false, not, true≢false}
 use native.Mathlib.Omega.{arith}
 use lib.ListN.{length}
+use lib.Dec.{eqb}
 use Rattle.laws.proofs.Tests.{contrary}
 use Rattle.numbers.specs.Numbers.{isNone}
 use Rattle.numbers.specs.declared.Instant.{Instant}
@@ -22,6 +23,7 @@ use Rattle.state.specs.Asking.{slicesOf, stateAtOf, outcomeOf}
 use Rattle.state.specs.declared.answer.Outcome.{Outcome}
 use Rattle.state.specs.declared.answer.Outcome.the-variants as outcome
 use Rattle.state.proofs.Stages.{order-left, left-asked}
+use Rattle.baselines.specs.Carried.{Shows, Left}
 use Rattle.baselines.specs.Steps.{drawnRecord, stepOf}
 use Rattle.baselines.specs.declared.drawing.Step.{Step}
 
@@ -43,14 +45,8 @@ told-written (known s) e = (s, refl)
 
 -- a table whose room and order are right, an instant that is given, and a record that fits: the answer is the standing's
 module _ (p : List ℕ) (at : Instant) (buffer : List ℕ) (order : checkOrder p ≡ Sound) (at-given : isNone at ≡ false) (fits : length buffer ≡ recordSize (strideOf p)) where
-  answered : stateAtOf p at buffer ≡ outcomeOf (permanentAt at (slicesOf p))
+  pub answered : stateAtOf p at buffer ≡ outcomeOf (permanentAt at (slicesOf p))
   answered = sym (left-asked p at buffer (permanentAt at (slicesOf p)) at-given fits ∙ order-left p at buffer order)
-
-  pub standing-refused : (f : Refusal) → stateAtOf p at buffer ≡ outcome.Refused f → permanentAt at (slicesOf p) ≡ refuses (f .number)
-  standing-refused f e = told-refused (permanentAt at (slicesOf p)) f (sym answered ∙ e)
-
-  pub standing-known : stateAtOf p at buffer ≡ outcome.Written → (s : State) × (permanentAt at (slicesOf p) ≡ known s)
-  standing-known e = told-written (permanentAt at (slicesOf p)) (sym answered ∙ e)
 
 -- ---- a record that was drawn
 module _ (stride n : ℕ) (begin end : Instant) (s : State) (v : Standing) (told : v ≡ known s) where
@@ -74,3 +70,8 @@ module _ (stride n : ℕ) (begin end : Instant) {step : Step} where
   pub step-most : (v : Standing) → step ≡ stepOf stride n begin end v → step .records ≤ 1
   step-most (refuses k) e = omega (arith, ap (λ (s : Step). s .records) e)
   step-most (known s) e = omega (arith, ap (λ (s : Step). s .records) e)
+
+  -- what is left of the instant
+  pub step-left : (v : Standing) (r : List ℕ) → step ≡ stepOf stride n begin end v → step .two ≡ false → Shows stride v r → Left (eqb (step .records) 1) stride v r
+  step-left (refuses k) r e t shows = rw e (k, refl, ap (λ (s : Step). s .two) (sym e) ∙ t)
+  step-left (known s) r e t shows = rw e (s, refl, shows s refl)

@@ -1,19 +1,26 @@
 // The records of the derived baselines, drawn one behind the other.
 ghost use mathlib.Core.Path.{_≡_};
-ghost use mathlib.Core.Bool.{false};
 ghost use Prim.Native.Nat.{_*_, _≤_, min};
-ghost use mathlib.Core.List.{_∷_, []};
+ghost use mathlib.Core.List.{_∷_, _++_};
 ghost use lib.ListN.{length};
 ghost use Rattle.octets.specs.Writing.{bytesOf, pasted};
-ghost use Rattle.numbers.specs.Numbers.{isNone};
 ghost use Rattle.slice.specs.Record.{recordSize};
 ghost use Rattle.slice.specs.declared.check.Checked.the-variants.{Sound};
 ghost use Rattle.table.specs.Header.{strideOf};
-ghost use Rattle.table.specs.Rules.{checkOrder};
-ghost use Rattle.history.specs.Permanent.{permanentAt};
-ghost use Rattle.state.specs.Asking.{slicesOf};
+ghost use Rattle.table.specs.Rules.{checkTable};
+ghost use Rattle.table.specs.declared.check.Sides.the-variants.{Permanent};
+ghost use Rattle.history.specs.Permanent.{Standing};
+ghost use Rattle.state.specs.Asking.{outcomeOf};
+ghost use Rattle.baselines.specs.Noted.{Noted, Fronted, OpenedBy};
+ghost use Rattle.baselines.specs.Carried.{Shows};
 ghost use Rattle.baselines.specs.Steps.{stepOf, afterStep, drawnOf, Drew};
-use crate::change::change_since;
+use crate::onward::go_on;
+use crate::onward::past_of;
+use crate::times::Front;
+use crate::times::change_since;
+use crate::times::front_of;
+use crate::times::hold;
+use crate::times::note;
 use numbers::Instant;
 use numbers::SequenceNumber;
 use octets::put;
@@ -22,7 +29,6 @@ use slice::Checked;
 use slice::PERMANENT;
 use slice::check_record;
 use state::Outcome;
-use state::state_at;
 use table::stride_of;
 
 // What one change instant gives: whether it has two anchors, how many records, and whether they pass the
@@ -40,37 +46,43 @@ pub enum Drawn {
     Records(usize, bool),
 }
 
-// Makes the record of a state that of a BASELINE: its kind, its sequence number and its end.
-fn put_front(record: &mut [u8], sequence: SequenceNumber, end: Instant)
-    ensures { λ _. ⌜ now («record» .exit) ≡ pasted (pasted (pasted (now («record» .entry)) 0 (1 ∷ 0 ∷ 0 ∷ 0 ∷ [])) 4 (bytesOf 4 (sequence .0))) 12 (bytesOf 4 (end .0)) ⌝ }
+// Makes the record of a state that of a BASELINE: its kind, its sequence number, its begin and its end.
+fn put_front(record: &mut [u8], sequence: SequenceNumber, begin: Instant, end: Instant)
+    requires { ⌜ 16 ≤ length (now «record») ⌝ }
+    ensures { λ _. ⌜ now («record» .exit) ≡ pasted (now («record» .entry)) 0 (1 ∷ 0 ∷ 0 ∷ 0 ∷ bytesOf 4 (sequence .0) ++ (bytesOf 4 (begin .0) ++ bytesOf 4 (end .0))) ⌝ }
 {
     put(record, 0, &[1, 0, 0, 0]);
     put32(record, 4, sequence.0);
+    put32(record, 8, begin.0);
     put32(record, 12, end.0);
 }
 
-// Draws the BASELINE from one change instant to the next, where there is a permanent state.
+// Draws the BASELINE from one change instant to the next, where there is a permanent state: the current
+// record says it.
 fn draw(
     record: &mut [u8],
-    permanent: &[u8],
+    current: &[u8],
+    told: Outcome,
+    stride: usize,
     sequence: SequenceNumber,
     begin: Instant,
     end: Instant,
 ) -> Step
-    requires { ⌜ (checkOrder (now permanent) ≡ Sound) × ((isNone begin ≡ false) × (length (now «record») ≡ recordSize (strideOf (now permanent)))) ⌝ }
-    ensures step { λ r. ⌜ r ≡ stepOf (strideOf (now (permanent .entry))) (sequence .0) begin end (permanentAt begin (slicesOf (now (permanent .entry)))) ⌝ }
-    ensures buffer { λ r. ⌜ now («record» .exit) ≡ afterStep (strideOf (now (permanent .entry))) (sequence .0) begin end (permanentAt begin (slicesOf (now (permanent .entry)))) (now («record» .entry)) ⌝ }
+    requires { ⌜ (length (now «record») ≡ recordSize stride) × (length (now current) ≡ recordSize stride) ⌝ }
+    ensures step { λ r. ⌜ ((v : Standing) → told ≡ outcomeOf v → Shows stride v (now (current .entry)) → r ≡ stepOf stride (sequence .0) begin end v) ⌝ }
+    ensures buffer { λ r. ⌜ ((v : Standing) → told ≡ outcomeOf v → Shows stride v (now (current .entry)) → now («record» .exit) ≡ afterStep stride (sequence .0) begin end v (now («record» .entry))) ⌝ }
 {
-    if let Outcome::Refused(refusal) = state_at(permanent, begin, record) {
+    if let Outcome::Refused(refusal) = told {
         return Step {
             two: refusal.number == 21,
             records: 0,
             sound: true,
         };
     }
-    put_front(record, sequence, end);
+    put(record, 0, current);
+    put_front(record, sequence, begin, end);
     let mut sound = false;
-    if let Checked::Sound = check_record(record, stride_of(permanent), PERMANENT) {
+    if let Checked::Sound = check_record(record, stride, PERMANENT) {
         sound = true;
     }
     Step {
@@ -93,32 +105,62 @@ fn place_in(count: usize, size: usize) -> usize
 
 // Draws the record of each change instant that has a permanent state, one behind the other. All that come
 // behind the first 256 are drawn over each other, so that they are checked too.
-pub(crate) fn draw_all(permanent: &[u8], drawn: &mut [u8]) -> Drawn
-    requires { ⌜ (checkOrder (now permanent) ≡ Sound) × (length (now drawn) ≡ 257 * recordSize (strideOf (now permanent))) ⌝ }
+fn walk(
+    permanent: &[u8],
+    begins: &[u32],
+    ends: &[u32],
+    gones: &[u32],
+    front: Front,
+    drawn: &mut [u8],
+) -> Drawn
+    requires { ⌜ (checkTable Permanent (now permanent) ≡ Sound) × (Noted (now permanent) (now begins) (now ends) (now gones) × (Fronted (now permanent) (front .end) × (OpenedBy (now permanent) (front .end) (front .opened) × ((length (now begins) ≡ 256) × ((length (now ends) ≡ 256) × ((length (now gones) ≡ 256) × (length (now drawn) ≡ 257 * recordSize (strideOf (now permanent))))))))) ⌝ }
     ensures answer { λ r. ⌜ r ≡ drawnOf (now (permanent .entry)) ⌝ }
     ensures buffer { λ r. ⌜ Drew r (now (permanent .entry)) (now (drawn .exit)) ⌝ }
 {
-    let size = 32 + 8 * stride_of(permanent);
-    let mut begin = change_since(permanent, Instant(0));
+    let stride = stride_of(permanent);
+    let size = 32 + 8 * stride;
+    let mut current = [0u8; 224];
+    let mut past = past_of(0, 0);
+    let mut begin = change_since(permanent, begins, ends, gones, front.end, Instant(0));
     let mut count = 0;
     let mut sound = true;
     while !begin.is_none() {
-        let end = change_since(permanent, Instant(begin.0 + 1));
+        let next = Instant(begin.0 + 1);
+        let end = change_since(permanent, begins, ends, gones, front.end, next);
+        let held = hold(begins, ends, front.end, begin.0);
+        let told = go_on(&mut current, permanent, begins, front, held, past, begin);
         let from = place_in(count, size);
         let sequence = SequenceNumber((count + 1) as u32);
-        let step = draw(
-            &mut drawn[from..from + size],
-            permanent,
-            sequence,
-            begin,
-            end,
-        );
+        let record = &mut drawn[from..from + size];
+        let step = draw(record, &current, told, stride, sequence, begin, end);
         if step.two {
             return Drawn::Two;
         }
+        past = past_of(step.records, held.count);
         count += step.records;
         sound = sound & step.sound;
         begin = end;
     }
     Drawn::Records(count, sound)
+}
+
+// Draws the records of the derived baselines: notes the times of the table's records, and walks from one
+// change instant to the next.
+pub(crate) fn draw_all(permanent: &[u8], drawn: &mut [u8]) -> Drawn
+    requires { ⌜ (checkTable Permanent (now permanent) ≡ Sound) × (length (now drawn) ≡ 257 * recordSize (strideOf (now permanent))) ⌝ }
+    ensures answer { λ r. ⌜ r ≡ drawnOf (now (permanent .entry)) ⌝ }
+    ensures buffer { λ r. ⌜ Drew r (now (permanent .entry)) (now (drawn .exit)) ⌝ }
+{
+    let mut begins = [0u32; 256];
+    let mut ends = [0u32; 256];
+    let mut gones = [0u32; 256];
+    note(permanent, &mut begins, &mut ends, &mut gones);
+    walk(
+        permanent,
+        &begins,
+        &ends,
+        &gones,
+        front_of(permanent),
+        drawn,
+    )
 }

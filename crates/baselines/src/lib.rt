@@ -1,8 +1,9 @@
-// The derived baselines of a feature, as a table of its own, and their listing. Each function answers for
-// every table and buffer, and none asks anything of its caller.
-mod change;
+// The derived baselines of a feature, as a table of its own. The function answers for every table and
+// buffer, and asks nothing of its caller.
 mod derivation;
 mod drawing;
+mod onward;
+mod times;
 
 pub use derivation::Derivation;
 pub use derivation::derive;

@@ -21,7 +21,7 @@ use Rattle.table.specs.declared.create.Creation.the-variants as creation
 use Rattle.table.specs.declared.arrival.Arrival.the-variants as arrival
 use Rattle.table.proofs.AnyOrder.{any-order, two-orders}
 use Rattle.state.specs.Asking.{permanentStateOf, snapshotOf, placeOf, afterState, afterSnapshot, refusedOutcome, refusedPlace}
-use Rattle.state.specs.Fourteen.{cases, answer, wanted, fourteen}
+use Rattle.demands.specs.Fourteen.{cases, answer, wanted, fourteen}
 use Rattle.state.specs.declared.answer.Outcome.the-variants as outcome
 use Rattle.state.proofs.Reach.{Reached, SameSnapshot, permanent-changed, temporary-changed}
 use Rattle.baselines.specs.Deriving.{derivedRecords, refusedDerivation, derivationOf, afterDeriving}
@@ -133,6 +133,6 @@ module _ (at : Instant) (buffer p t s : List ℕ) where
   pub in-passing-reach : (SameSnapshot at buffer p p t (arrivedAt t s) → ⊥) → Reached at t s
   in-passing-reach = temporary-changed at buffer p t s
 
--- ==== The fourteen examples of document 01, from bytes: crates/state/specs/Fourteen.antt has the cases and what they answer
+-- ==== The fourteen examples of document 01, from bytes: specs/Fourteen.antt has the cases and what they answer
 pub examples : map answer cases ≡ wanted
 examples = fourteen

@@ -1,14 +1,14 @@
--- The change instants: they rise and are given, each time by which a slice changes the state is among them, one pass finds the next,
--- and a walk from one to the next goes through them all. Assumes nothing.
+-- The change instants: they rise and are given, each time by which a slice changes the state is among them, and a walk from one to the
+-- next goes through them all. Assumes nothing.
 use Prim.Native.Nat.{_+_, _≤_, _<_}
 use mathlib.Core.Path.{_≡_, refl, sym, ap, _∙_, subst}
-use mathlib.Core.List.{List, [], _∷_, _++_, map}
-use mathlib.Core.Bool.{true, false, not, _&&_}
+use mathlib.Core.List.{List, [], _∷_, map}
+use mathlib.Core.Bool.{true, false, not}
 use mathlib.Core.Logic.{_⊎_, inl, inr, ⊎-elim}
 use borrow.Author.Tests.{not-true}
 use Rattle.laws.specs.Lists.{kept, joined}
 use Rattle.laws.specs.Keyed.{In, Rising}
-use Rattle.laws.proofs.Tests.{tests, pick-ind, by-test, contrary, and-both}
+use Rattle.laws.proofs.Tests.{tests, pick-ind, by-test, contrary}
 use Rattle.laws.proofs.Lists.{kept-in, kept-all}
 use Rattle.laws.proofs.Fresh.{sorted-rising, sorted-within, sorted-key}
 use Rattle.numbers.specs.Numbers.{noInstant, none, isNone, given, before, atMost, sameInstant}
@@ -17,7 +17,6 @@ use Rattle.numbers.proofs.Facts.{none-true, none-false}
 use Rattle.slice.specs.Record.{baseline, permdelta, Slice}
 use Rattle.history.specs.Counted.{counts}
 use Rattle.history.specs.Changes.{changesBy, changeInstants, nextOf}
-use Rattle.history.specs.Soonest.{sooner, soonestOf, soonestFrom}
 use Rattle.history.proofs.Orders.{instant-of, instant-order}
 use Rattle.history.proofs.Kept.{kept-rising, joined-in}
 
@@ -137,11 +136,11 @@ module _ (slices : List Slice) where
     later = kept (atMost v) (changeInstants slices)
 
     -- the first of them is none or a change instant at or after v, and no other such comes before it
-    later-next : (nextOf later ≡ none) ⊎ (In (nextOf later) (changeInstants slices) × (v .0 ≤ nextOf later .0))
+    pub later-next : (nextOf later ≡ none) ⊎ (In (nextOf later) (changeInstants slices) × (v .0 ≤ nextOf later .0))
     unfolding atMost
     later-next = ⊎-elim inl (λ m. let (i, l) = kept-in (atMost v) (changeInstants slices) (nextOf later) .0 m in inr (i, omega tests)) (next-in later)
 
-    later-least : (x : Instant) → In x (changeInstants slices) → v .0 ≤ x .0 → nextOf later .0 ≤ x .0
+    pub later-least : (x : Instant) → In x (changeInstants slices) → v .0 ≤ x .0 → nextOf later .0 ≤ x .0
     unfolding atMost
     later-least x m l =
         next-least later (kept-rising (λ t. t) before sameInstant (atMost v) (changeInstants slices) (changes-rising slices)) x
@@ -164,57 +163,3 @@ module _ (slices : List Slice) where
   -- and where it is given the others are those after it
   pub walk-next : (v : Instant) → isNone (nextOf (later v)) ≡ false → later v ≡ nextOf (later v) ∷ later (justAfter (nextOf (later v)))
   walk-next v = next-first v (changeInstants slices) (changes-rising slices)
-
--- ---- one pass finds the next
-module _ (from : Instant) where
-  -- r is the soonest of some instants, and so far it was best
-  record Soonest (best : Instant) (l : List Instant) (r : Instant) : Type 0 where
-    one : (r ≡ best) ⊎ (In r l × (from .0 ≤ r .0))
-    most : r .0 ≤ best .0
-    least : (x : Instant) → In x l → from .0 ≤ x .0 → r .0 ≤ x .0
-
-  soonest-of : (best : Instant) (l : List Instant) → Soonest best l (soonestOf from best l)
-  unfolding atMost before
-  soonest-of best [] = record { one = inl refl; most = omega tests; least = λ x m. absurd m }
-  soonest-of best (x ∷ l) =
-      pick-ind (λ b. Soonest best (x ∷ l) (soonestOf from b l)) (atMost from x && before x best)
-      (λ y. let (p, q) = and-both (atMost from x) (before x best) y in
-      let h = soonest-of x l in
-      record {
-        one = ⊎-elim (λ e. inr (inl e, omega (tests, ap (λ i. i .0) e))) (λ (m, k). inr (inr m, k)) (h .one);
-        most = omega (tests, h .most);
-        least = λ z. ⊎-elim (λ e _. omega (tests, h .most, ap (λ i. i .0) e)) (h .least z);
-      })
-      (λ n. let h = soonest-of best l in
-      record {
-        one = ⊎-elim inl (λ (m, k). inr (inr m, k)) (h .one);
-        most = h .most;
-        least = λ z. ⊎-elim (λ e k. omega (tests, h .most, behind n (omega (tests, ap (λ i. i .0) e)), ap (λ i. i .0) e)) (h .least z);
-      })
-    where
-      behind : (atMost from x && before x best) ≡ false → from .0 ≤ x .0 → best .0 ≤ x .0
-      behind n k = let p : atMost from x ≡ true = omega tests in let q : before x best ≡ false = rw p at n in omega tests
-
-  soonest-append : (best : Instant) (l k : List Instant) → soonestOf from best (l ++ k) ≡ soonestOf from (soonestOf from best l) k
-  soonest-append best [] k = refl
-  soonest-append best (x ∷ l) k = soonest-append (sooner from best x) l k
-
-  soonest-joined : (best : Instant) (slices : List Slice) → soonestFrom from best slices ≡ soonestOf from best (joined (map changesBy slices))
-  soonest-joined best [] = refl
-  soonest-joined best (s ∷ slices) =
-      soonest-joined (soonestOf from best (changesBy s)) slices ∙ sym (soonest-append best (changesBy s) (joined (map changesBy slices)))
-
-  -- ONE PASS: the first change instant at or after one
-  pub since-pass : (slices : List Slice) → Bounded slices → soonestFrom from none slices ≡ nextOf (kept (atMost from) (changeInstants slices))
-  since-pass slices low =
-      let all = joined (map changesBy slices) in
-      let r = soonestOf from none all in
-      let n = nextOf (later slices from) in
-      let h : Soonest none all r = soonest-of none all in
-      let b : n .0 ≤ noInstant = walk-below slices from low in
-      let p : r .0 ≤ n .0 = ⊎-elim (λ e. omega (tests, h .most, ap (λ i. i .0) e))
-      (λ (m, k). h .least n (joined-in changesBy slices n .1 (changes-from slices n m .0)) k) (later-next slices from) in
-      let q : n .0 ≤ r .0 = ⊎-elim (λ e. omega (tests, ap (λ i. i .0) e))
-      (λ (m, k). ⊎-elim (λ e. omega (tests, ap (λ i. i .0) e)) (λ i. later-least slices from r i k) (changing slices r (joined-in changesBy slices r .0 m)))
-      (h .one) in
-      soonest-joined none slices ∙ instant-of r n (omega tests)

@@ -1,12 +1,15 @@
 -- What is kept of a list, and what is in lists one behind the other. Assumes nothing.
-use mathlib.Core.Path.{_≡_, refl}
+use Prim.Native.Nat.{ℕ, zero, suc, _<_}
+use mathlib.Core.Path.{_≡_, refl, sym, ap, _∙_}
 use mathlib.Core.List.{List, [], _∷_, _++_, map}
 use mathlib.Core.Bool.{Bool, true, false, _&&_}
 use mathlib.Core.Logic.{_⊎_, inl, inr, ⊎-elim, _↔_}
+use native.Mathlib.Omega.{arith}
+use lib.ListN.{length, drop, getD}
 use Rattle.laws.specs.Lists.{kept, joined}
 use Rattle.laws.specs.Keyed.{In, Rising}
 use Rattle.laws.proofs.Tests.{pick-ind, by-test}
-use Rattle.laws.proofs.Lists.{kept-in}
+use Rattle.laws.proofs.Lists.{kept-in, in-at}
 
 -- ---- joined tests, the second looked at where the first holds
 pub and-under : (a : Bool) {b c : Bool} → (a ≡ true → b ≡ c) → (a && b) ≡ (a && c)
@@ -27,6 +30,26 @@ module _ {A : Type 0} where
   pub kept-append : (f : A → Bool) (l k : List A) → kept f (l ++ k) ≡ kept f l ++ kept f k
   kept-append f [] k = refl
   kept-append f (x ∷ l) k = by-test (f x) (λ t. rw (t, kept-append f l k)) (λ n. rw (n, kept-append f l k))
+
+-- by the places that pass
+module _ {A : Type 0} (f : A → Bool) (d : A) where
+  -- no place passes
+  pub kept-nowhere : (l : List A) → ((j : ℕ) → j < length l → f (getD l j d) ≡ false) → kept f l ≡ []
+  kept-nowhere l h = kept-none f l (λ x m. let (j, k, e) = in-at l x d m in ap f (sym e) ∙ h j k)
+
+  -- one place alone passes
+  pub kept-one : (l : List A) (i : ℕ) → i < length l → f (getD l i d) ≡ true → ((j : ℕ) → j < length l → (j ≡ i → ⊥) → f (getD l j d) ≡ false)
+      → kept f l ≡ getD l i d ∷ []
+  kept-one [] i h y others = absurd (omega arith)
+  kept-one (x ∷ xs) zero h y others = rw y (ap (λ (l : List A). x ∷ l) (kept-nowhere xs (λ j k. others (suc j) (omega arith) (λ e. omega arith))))
+  kept-one (x ∷ xs) (suc i) h y others =
+      rw (others 0 (omega arith) (λ e. omega arith)) (kept-one xs i (omega arith) y (λ j k n. others (suc j) (omega arith) (λ e. n (omega arith))))
+
+  -- none of the first n places passes
+  pub kept-behind : (n : ℕ) (l : List A) → ((j : ℕ) → j < n → j < length l → f (getD l j d) ≡ false) → kept f l ≡ kept f (drop n l)
+  kept-behind zero l h = refl
+  kept-behind (suc n) [] h = refl
+  kept-behind (suc n) (x ∷ xs) h = rw (h 0 (omega arith) (omega arith)) (kept-behind n xs (λ j k m. h (suc j) (omega arith) (omega arith)))
 
 -- what is kept of a rising list rises
 pub kept-rising : {R K : Type 0} (key : R → K) (less same : K → K → Bool) (f : R → Bool) (l : List R) → Rising key less same l

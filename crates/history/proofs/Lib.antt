@@ -10,3 +10,4 @@ pub mod Reach
 pub mod Steady
 pub mod ReadBack
 pub mod Again
+pub mod Onward

@@ -9,4 +9,5 @@ pub mod Reach
 pub mod Parts
 pub mod Changes
 pub mod Derived
-pub mod Soonest
+pub mod Onward
+pub mod Examples

@@ -18,13 +18,13 @@ use Rattle.numbers.specs.declared.Instant.{Instant}
 use Rattle.slice.specs.Record.{tempdelta, recordSize, keyLess, sameKey, Property, unmentioned, Slice, viewOf}
 use Rattle.slice.specs.Rules.{timesOf, timesRight}
 use Rattle.slice.specs.declared.check.Checked.the-variants.{Sound}
-use Rattle.slice.proofs.Sound.{Emptied, Counted, sound-record}
+use Rattle.slice.proofs.Sound.{Emptied, Counted}
 use Rattle.slice.proofs.Times.{tempdelta-times}
-use Rattle.table.specs.Header.{sideOf, countOf, strideOf, roomOf, recordsOf, recordAt}
+use Rattle.table.specs.Header.{countOf, strideOf, roomOf, recordsOf, recordAt}
 use Rattle.table.specs.Rules.{checkTable}
 use Rattle.table.specs.declared.check.Sides.the-variants.{Temporary}
 use Rattle.table.proofs.Sound.{sound-table}
-use Rattle.table.proofs.Stays.{all-good}
+use Rattle.table.proofs.Stays.{sound-in}
 use Rattle.history.specs.Counted.{counts, holds, sliceKey}
 use Rattle.history.specs.State.{State, started, newTime, applied, appliedAll}
 use Rattle.history.specs.Permanent.{following}
@@ -75,12 +75,9 @@ life-kept (d ∷ l) h u =
 module _ (o : List ℕ) (sound : checkTable Temporary o ≡ Sound) where
   sound-lifeless : (d : Slice) → In d (slicesOf o) → counts tempdelta d ≡ true → Lifeless d
   unfolding counts timesRight viewOf isNone
-  sound-lifeless d m c = go (sound-record (strideOf o) (sideOf o) (seen .0) (all-good (strideOf o) (sideOf o) records (sound-table Temporary o sound .sound) (seen .0) (seen .1)) .rest)
+  sound-lifeless d m c = go (sound-in Temporary o sound (seen .0) (seen .1) .rest)
     where
-      records : List (List ℕ)
-      records = recordsOf (recordSize (strideOf o)) o
-
-      seen : (r : List ℕ) × In r records × (d ≡ viewOf (strideOf o) r)
+      seen : (r : List ℕ) × In r (recordsOf (recordSize (strideOf o)) o) × (d ≡ viewOf (strideOf o) r)
       seen = slice-view o d m
 
       counted : (eqb (d .kind) tempdelta ≡ true) × (not (d .cancelled) ≡ true)

@@ -8,10 +8,10 @@ use mathlib.Core.Option.{some, Option·map}
 use native.Mathlib.Nat.{add-zero}
 use native.Mathlib.Omega.{arith}
 use lib.ListN.{length, take, drop, getD, length-map, length-drop, drop-of-length-le, List·getD-map}
-use lib.Seq.{drop-drop, getD-drop, length-take-le}
+use lib.Seq.{drop-drop, getD-drop}
 use Rattle.laws.specs.Keyed.{In, Rising, stored, put}
 use Rattle.laws.proofs.Lists.{length-pieces, map-in, in-map, drop-map}
-use Rattle.laws.proofs.Pieces.{piece-at, piece-within, pieces-sized}
+use Rattle.laws.proofs.Pieces.{piece-at, pieces-sized}
 use Rattle.property.specs.Eight.{propertiesOf, mentioned}
 use Rattle.slice.specs.Record.{recordSize, partsOf, keyOf, keyLess, sameKey, unmentioned, says, propertyOf, Slice, viewOf}
 use Rattle.slice.specs.declared.record.Key.{Key}
@@ -96,11 +96,7 @@ module _ (stride : ℕ) (r : List ℕ) where
       List·getD-map propertyOf (partsOf stride r) p []
       ∙ ap propertyOf (piece-at stride 8 (drop 32 r) [] p h ∙ ap (take stride) (drop-drop (p * stride) 32 r))
 
-  -- where the record has its size each has its own
-  pub property-length : length r ≡ recordSize stride → (p : ℕ) → p < 8 → length (propertyAt p) ≡ stride
-  property-length l p h = length-take-le stride (drop (32 + p * stride) r) (rw (length-drop (32 + p * stride) r) (omega (arith, piece-within stride p 8 h)))
-
-  -- and one that says bytes says so many
+  -- where the record has its size, one that says bytes says as many as a property has
   pub view-sized : length r ≡ recordSize stride → (b : List ℕ) → In (says b) (viewOf stride r .properties) → length b ≡ stride
   unfolding viewOf propertiesOf
   view-sized l b m =

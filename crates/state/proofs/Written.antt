@@ -10,10 +10,10 @@ use Rattle.laws.specs.Lists.{joined}
 use Rattle.laws.specs.Keyed.{In}
 use Rattle.laws.proofs.Tests.{contrary}
 use Rattle.laws.proofs.Lists.{map-in}
-use Rattle.laws.proofs.Pieces.{Sized, joined-length, joined-at}
+use Rattle.laws.proofs.Pieces.{Sized, joined-at}
 use Rattle.numbers.specs.declared.Instant.{Instant}
 use Rattle.property.specs.Eight.{mentioned}
-use Rattle.slice.specs.Record.{recordSize, Property, unmentioned, says, isMentioned, viewOf}
+use Rattle.slice.specs.Record.{Property, unmentioned, says, isMentioned, viewOf}
 use Rattle.history.specs.State.{State}
 use Rattle.history.specs.Source.{mentions}
 use Rattle.state.specs.Written.{propertyBytes, stateRecord}
@@ -60,10 +60,3 @@ module _ (stride : ℕ) (wide : 2 ≤ stride) where
         ap (take stride) (sym (drop-drop (n * stride) 32 (stateRecord stride t s)) ∙ ap (drop (n * stride)) behind)
         ∙ joined-at stride parts (propertyBytes stride unmentioned) sized n (rw (length-map (s .properties) (propertyBytes stride)) h)
         ∙ List·getD-map (propertyBytes stride) (s .properties) n unmentioned
-
-    pub written-length : length (s .properties) ≡ 8 → length (stateRecord stride t s) ≡ recordSize stride
-    unfolding stateRecord
-    written-length e =
-        let l : length (joined parts) ≡ 8 * stride =
-        joined-length stride parts sized ∙ ap (λ (n : ℕ). n * stride) (length-map (s .properties) (propertyBytes stride) ∙ e) in
-        omega arith

@@ -1,4 +1,3 @@
 pub mod Written
 pub mod Asking
 pub mod Steps
-pub mod Fourteen

@@ -1,6 +1,6 @@
 -- The records of a table and its bytes, each from the other. Over the size of a record. Assumes nothing.
 use Prim.Native.Nat.{ℕ, suc, _+_, _*_, _-_, _/_, _≤_, _<_}
-use mathlib.Core.Path.{_≡_, sym, _∙_}
+use mathlib.Core.Path.{_≡_, sym, _∙_, subst}
 use mathlib.Core.List.{List, [], _∷_}
 use native.Mathlib.Nat.{div-mul-le-self, pos-of-div-pos, mul-le-mul-right, suc-mul}
 use native.Mathlib.Numerals.{add-one}
@@ -8,7 +8,8 @@ use native.Mathlib.Omega.{arith}
 use lib.ListN.{length, drop, getD, drop-of-length-le}
 use lib.Seq.{drop-drop, drop-cons}
 use borrow.Author.Tests.{lt-ltb}
-use Rattle.laws.proofs.Lists.{length-pieces}
+use Rattle.laws.specs.Keyed.{In}
+use Rattle.laws.proofs.Lists.{length-pieces, getD-in}
 use Rattle.laws.proofs.Pieces.{piece-at}
 use Rattle.table.specs.Header.{countOf, roomOf, recordsOf, recordAt}
 
@@ -37,6 +38,9 @@ module _ (size : ℕ) (t : List ℕ) where
   pub record-is : (i : ℕ) → i < countOf t → countOf t ≤ roomOf size t → recordAt size i t ≡ getD (recordsOf size t) i []
   unfolding recordAt recordsOf
   record-is i h r = rw (lt-ltb i (roomOf size t) (omega arith)) (sym (piece-at size (countOf t) (drop 32 t) [] i h ∙ rw drop-drop))
+
+  pub record-in : (i : ℕ) → i < countOf t → countOf t ≤ roomOf size t → In (recordAt size i t) (recordsOf size t)
+  record-in i h r = subst (λ x. In x (recordsOf size t)) (sym (record-is i h r)) (getD-in (recordsOf size t) i [] (omega (arith, records-length)))
 
   -- what a walk that has come to record i has before it
   pub rest-at : (i : ℕ) → i < countOf t → countOf t ≤ roomOf size t → drop i (recordsOf size t) ≡ recordAt size i t ∷ drop (i + 1) (recordsOf size t)

@@ -25,7 +25,7 @@ use Rattle.slice.specs.declared.check.Refusal.{Refusal}
 use Rattle.slice.specs.declared.check.Checked.{Checked}
 use Rattle.slice.specs.declared.check.Checked.the-variants.{Sound, Refused}
 use Rattle.slice.proofs.Keys.{key-order}
-use Rattle.slice.proofs.Sound.{sound-record, sound-slice}
+use Rattle.slice.proofs.Sound.{SoundRecord, sound-record, sound-slice}
 use Rattle.table.specs.Header.{sideOf, featureOf, strideOf, roomOf, recordsOf, written}
 use Rattle.table.specs.Rules.{takes, isRefused, fails, inOrder, checkTable}
 use Rattle.table.specs.Arriving.{recordOf, storedOf, filingOf, arrivalOf, changed, filed, arrivedAt}
@@ -57,6 +57,10 @@ module _ (stride side : ℕ) where
 
   pub good-sized : (rs : List (List ℕ)) → ((r : List ℕ) → In r rs → Good r) → Sized (recordSize stride) rs
   good-sized rs g r m = sound-record stride side r (g r m) .size
+
+-- each record of a sound table is sound
+pub sound-in : (sides : Sides) (t : List ℕ) → checkTable sides t ≡ Sound → (r : List ℕ) → In r (recordsOf (recordSize (strideOf t)) t) → SoundRecord (strideOf t) r (sideOf t)
+sound-in sides t e r m = sound-record (strideOf t) (sideOf t) r (all-good (strideOf t) (sideOf t) (recordsOf (recordSize (strideOf t)) t) (sound-table sides t e .sound) r m)
 
 -- strictly rising by key, as a test and as a fact
 abbrev pub Up : List (List ℕ) → Type 0

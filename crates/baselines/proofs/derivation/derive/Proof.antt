@@ -11,7 +11,7 @@ use Rattle.laws.specs.Lists.{any}
 use Rattle.table.specs.Header.{strideOf}
 use Rattle.table.specs.Rules.{fails, checkTable}
 use Rattle.table.specs.declared.check.Sides.the-variants as sides
-use Rattle.table.proofs.Sound.{sound-table, sound-order}
+use Rattle.table.proofs.Sound.{sound-table}
 use Rattle.baselines.specs.Deriving.{derivedRecords}
 use Rattle.baselines.specs.Steps.{drawnOf, Drew}
 use Rattle.baselines.specs.declared.drawing.Drawn.{Drawn}
@@ -43,7 +43,7 @@ returns : tie.Need-returns
 returns c = (table-refused _ _ _ (sym (c .before .before .before .check-table .ensures) ∙ c .before .refusal .given .1), refl)
 
 draw-all-requires : tie.Need-draw-all-requires
-draw-all-requires c κs = (sound-order sides.Permanent _ (sound-table sides.Permanent _ (sound (c .before))), refl)
+draw-all-requires c κs = (sound (c .before), refl)
 
 returns-2 : tie.Need-returns-2
 returns-2 c =

@@ -1,0 +1,304 @@
+-- What the noted times of a sound table tell of its slices: the BASELINE that holds at an instant, the PERMDELTAs of an instant, and the
+-- next change instant. And that the BASELINEs of a table in order stand in front. Assumes nothing.
+use Prim.Native.Nat.{ℕ, zero, suc, _+_, _≤_, _<_}
+use mathlib.Core.Path.{_≡_, refl, sym, ap, _∙_, subst}
+use mathlib.Core.List.{List, [], _∷_}
+use mathlib.Core.Bool.{Bool, true, false}
+use mathlib.Core.Logic.{_⊎_, inl, inr, ⊎-elim}
+use lib.ListN.{length, drop, getD}
+use lib.Dec.{leb, ltb, eqb}
+use borrow.Author.Tests.{eqb-true, eq-eqb, ne-eqb}
+use Rattle.laws.specs.Lists.{kept}
+use Rattle.laws.specs.Keyed.{In, Rising}
+use Rattle.laws.proofs.Tests.{tests, pick-ind, by-test, contrary, and-both, or-either}
+use Rattle.laws.proofs.Lists.{getD-in, in-at}
+use Rattle.laws.proofs.Orders.{lex-true}
+use Rattle.octets.specs.Bytes.{byteOf, beOf, digits, each, there, filled}
+use Rattle.octets.proofs.Runs.{filled-join}
+use Rattle.numbers.specs.Numbers.{noInstant, none, isNone, before, atMost, sameInstant}
+use Rattle.numbers.specs.declared.Instant.{Instant}
+use Rattle.slice.specs.Record.{baseline, permdelta, ofSide, recordSize, kindOf, sequenceOf, keyOf, keyLess, sameKey, periodOf, lifeOf, Slice, viewOf}
+use Rattle.slice.specs.declared.check.Checked.the-variants.{Sound}
+use Rattle.slice.proofs.Sound.{SoundRecord}
+use Rattle.table.specs.Header.{sideOf, countOf, strideOf, roomOf, recordsOf, recordAt}
+use Rattle.table.specs.Rules.{checkTable, checkOrder}
+use Rattle.table.specs.declared.check.Sides.the-variants.{Permanent}
+use Rattle.table.proofs.Records.{records-length, record-is, record-in}
+use Rattle.table.proofs.Sound.{sound-table, order-sound}
+use Rattle.table.proofs.Stays.{sound-in, order-in}
+use Rattle.history.specs.Counted.{counts, holds}
+use Rattle.history.specs.Period.{until}
+use Rattle.history.specs.Anchor.{stands, opens, based, opened, nowhere, only, anchor}
+use Rattle.history.specs.State.{State, applied, appliedAll}
+use Rattle.history.specs.Onward.{changesAt}
+use Rattle.history.specs.Changes.{changesBy, changeInstants, nextOf}
+use Rattle.history.proofs.Orders.{instant-of, counts-kind}
+use Rattle.history.proofs.Changes.{Changing, Bounded, begin-changing, end-changing, life-changing, delta-changing, changes-from, later, later-next, later-least, walk-below}
+use Rattle.history.proofs.Kept.{kept-nowhere, kept-one, kept-behind}
+use Rattle.state.specs.Asking.{slicesOf}
+use Rattle.state.proofs.Slices.{slices-length, slices-at, slice-at}
+use Rattle.baselines.specs.Noted.{Noted, Fronted, OpenedBy, Least, HeldBy, lies}
+use Rattle.baselines.specs.Carried.{Held}
+use Rattle.baselines.specs.Steps.{changeSince}
+
+-- ---- the BASELINEs of a table in order stand in front
+-- of two places in a rising list the first has the lower key
+rising-at : {R K : Type 0} (key : R → K) (less same : K → K → Bool) (d : R) (l : List R) → Rising key less same l
+    → (i j : ℕ) → i < j → j < length l → less (key (getD l i d)) (key (getD l j d)) ≡ true
+rising-at key less same d [] up i j h k = absurd (omega tests)
+rising-at key less same d (x ∷ xs) up i zero h k = absurd (omega tests)
+rising-at key less same d (x ∷ xs) (low, up) zero (suc j) h k = low (getD xs j d) (getD-in xs j d (omega tests))
+rising-at key less same d (x ∷ xs) (low, up) (suc i) (suc j) h k = rising-at key less same d xs up i j (omega tests) (omega tests)
+
+module _ (p : List ℕ) (order : checkOrder p ≡ Sound) where
+  abbrev kind : ℕ → ℕ
+  kind j = kindOf (recordAt (recordSize (strideOf p)) j p)
+
+  -- a kind is at most those behind it
+  kinds-rise : (i j : ℕ) → i < j → j < countOf p → kind i ≤ kind j
+  unfolding keyLess
+  kinds-rise i j h k =
+      let size = recordSize (strideOf p) in
+      let rs = recordsOf size p in
+      let (roomy, rises) = order-sound p order in
+      let n = records-length size p in
+      let l = rising-at keyOf keyLess sameKey [] rs (order-in rs rises) i j h (omega tests) in
+      let a : kind i ≡ kindOf (getD rs i []) = ap kindOf (record-is size p i (omega tests) roomy) in
+      let b : kind j ≡ kindOf (getD rs j []) = ap kindOf (record-is size p j k roomy) in
+      ⊎-elim (λ x. omega tests) (λ x. omega (tests, x .0)) (lex-true (kindOf (getD rs i [])) (sequenceOf (getD rs i []) .0) (kindOf (getD rs j [])) (sequenceOf (getD rs j []) .0) l)
+
+  -- they are the first n, where those are BASELINEs and the next, if there is one, is none
+  pub front-is : (n : ℕ) → n ≤ countOf p → ((j : ℕ) → j < n → kind j ≤ baseline) → (n < countOf p → baseline < kind n) → Fronted p n
+  front-is n most front next = record {
+    most = most;
+    front = front;
+    behind = λ j h k. by-test (eqb j n) (λ y. let e : j ≡ n = omega tests in subst (λ (m : ℕ). baseline < kind m) (sym e) (next (omega tests)))
+        (λ y. omega (tests, next (omega tests), kinds-rise n j (omega tests) k));
+  }
+
+-- ---- a cancelled record gives no time
+-- bytes that are all alike make one number
+digits-full : (r : List ℕ) (v n at : ℕ) → each (λ i. eqb (byteOf r i) v) n at ≡ true → digits (byteOf r) n at ≡ digits (λ _. v) n at
+digits-full r v zero at h = refl
+digits-full r v (suc n) at h =
+    let (p, q) = and-both (each (λ i. eqb (byteOf r i) v) n at) (eqb (byteOf r (at + n)) v) h in
+    rw (digits-full r v n at p, eqb-true (byteOf r (at + n)) v q)
+
+full-none : (r : List ℕ) (at : ℕ) → filled 255 4 r at ≡ true → beOf 4 r at ≡ noInstant
+unfolding filled beOf noInstant
+full-none r at h = let (p, q) = and-both (there 4 r at) (each (λ i. eqb (byteOf r i) 255) 4 at) h in rw p (digits-full r 255 4 at q)
+
+-- its begin, its end and its life end are none
+abbrev Timeless : List ℕ → Type 0
+Timeless r = (periodOf r .begin .0 ≡ noInstant) × (periodOf r .end .0 ≡ noInstant) × (lifeOf r .end .0 ≡ noInstant)
+
+full-timeless : (r : List ℕ) → filled 255 16 r 8 ≡ true → Timeless r
+full-timeless r h =
+    let (a, b) = and-both (filled 255 4 r 8) (filled 255 12 r 12) (sym (filled-join 255 4 12 r 8) ∙ h) in
+    let (c, d) = and-both (filled 255 4 r 12) (filled 255 8 r 16) (sym (filled-join 255 4 8 r 12) ∙ b) in
+    let (e, f) = and-both (filled 255 4 r 16) (filled 255 4 r 20) (sym (filled-join 255 4 4 r 16) ∙ d) in
+    (full-none r 8 a, full-none r 12 c, full-none r 20 f)
+
+module _ (p begins ends gones : List ℕ) (front : ℕ) (sound : checkTable Permanent p ≡ Sound) (noted : Noted p begins ends gones) (fronted : Fronted p front) where
+  abbrev at : ℕ → List ℕ
+  at j = recordAt (recordSize (strideOf p)) j p
+
+  abbrev slice : ℕ → Slice
+  slice j = viewOf (strideOf p) (at j)
+
+  abbrev slices : List Slice
+  slices = slicesOf p
+
+  -- ---- its records, place by place
+  roomy : countOf p ≤ roomOf (recordSize (strideOf p)) p
+  roomy = sound-table Permanent p sound .roomy
+
+  -- the record that stands there is sound
+  here : (j : ℕ) → j < countOf p → SoundRecord (strideOf p) (at j) (sideOf p)
+  here j h = sound-in Permanent p sound (at j) (record-in (recordSize (strideOf p)) p j h roomy)
+
+  -- each is a BASELINE or a PERMDELTA
+  two-kinds : (j : ℕ) → j < countOf p → (kindOf (at j) ≡ baseline) ⊎ (kindOf (at j) ≡ permdelta)
+  unfolding ofSide
+  two-kinds j h =
+      let s : eqb (sideOf p) 0 ≡ true = sound-table Permanent p sound .side in
+      ⊎-elim (λ e. inl (eqb-true _ _ e)) (λ e. inr (eqb-true _ _ e)) (or-either (eqb (kindOf (at j)) baseline) (eqb (kindOf (at j)) permdelta) (rw s at (here j h .kind)))
+
+  -- the first are BASELINEs, those behind them PERMDELTAs
+  front-kind : (j : ℕ) → j < front → kindOf (at j) ≡ baseline
+  front-kind j h = ⊎-elim (λ e. e) (λ e. absurd (omega (tests, fronted .front j h))) (two-kinds j (omega (tests, fronted .most)))
+
+  behind-kind : (j : ℕ) → front ≤ j → j < countOf p → kindOf (at j) ≡ permdelta
+  behind-kind j h k = ⊎-elim (λ e. absurd (omega (tests, fronted .behind j h k))) (λ e. e) (two-kinds j k)
+
+  module _ (t : Instant) (given′ : t .0 < noInstant) where
+    -- ---- the BASELINE that holds
+    -- a BASELINE holds where the instant lies in its noted period
+    stands-front : (j : ℕ) → j < front → stands slices t (slice j) ≡ lies begins ends (t .0) j
+    unfolding stands counts holds until before atMost viewOf
+    stands-front j h =
+        let k : j < countOf p = omega (tests, fronted .most) in
+        let (b, e, g) = noted j k in
+        ⊎-elim
+        (λ x. let n : getD begins j 0 ≡ noInstant = b ∙ full-timeless (at j) (x .timeless) .0 in
+        let z : leb (getD begins j 0) (t .0) ≡ false = omega tests in
+        rw (front-kind j h, x .cancelled, z))
+        (λ x. rw (front-kind j h, x .uncancelled, b, e))
+        (here j k .rest)
+
+    stands-behind : (j : ℕ) → front ≤ j → j < countOf p → stands slices t (slice j) ≡ false
+    unfolding stands counts viewOf
+    stands-behind j h k = rw (behind-kind j h k)
+
+    -- whether a place holds, by its own record
+    stands-at : (d : Slice) (j : ℕ) → j < length slices → (j < front → lies begins ends (t .0) j ≡ false) → stands slices t (getD slices j d) ≡ false
+    stands-at d j h others =
+        let k : j < countOf p = omega (tests, slices-length p) in
+        ap (stands slices t) (slice-at p j d k roomy)
+        ∙ by-test (ltb j front) (λ y. stands-front j (omega tests) ∙ others (omega tests)) (λ n. stands-behind j (omega tests) k)
+
+    -- no BASELINE holds where the instant lies in no noted period; the anchor is the record at the one place that it lies in
+    pub held-told : (count place : ℕ) → HeldBy (lies begins ends (t .0)) front count place → Held p t count place
+    unfolding anchor
+    held-told count place held = record {
+      none = λ e. kept-nowhere (stands slices t) (slice place) slices (λ j h. stands-at (slice place) j h (λ l. held .none e .1 j l));
+      one = λ e. let (l, y, others) = held .one e in
+          let k : place < countOf p = omega (tests, fronted .most) in
+          let seen : getD slices place (slice place) ≡ slice place = slice-at p place (slice place) k roomy in (
+            k,
+            ap (only based (only opened nowhere (kept (opens t) slices)))
+                (kept-one (stands slices t) (slice place) slices place (omega (tests, slices-length p)) (ap (stands slices t) seen ∙ stands-front place l ∙ y)
+                (λ j h n. stands-at (slice place) j h (λ m. others j m n)) ∙ ap (λ (s : Slice). s ∷ []) seen),
+          );
+    }
+
+    -- ---- the PERMDELTAs of an instant
+    -- behind the front a record is one of the instant where it begins then
+    change-here : (i : ℕ) → front ≤ i → i < countOf p → changesAt t (slice i) ≡ eqb (getD begins i 0) (t .0)
+    unfolding changesAt counts sameInstant viewOf
+    change-here i h k =
+        let (b, e, g) = noted i k in
+        ⊎-elim
+        (λ x. let n : getD begins i 0 ≡ noInstant = b ∙ full-timeless (at i) (x .timeless) .0 in
+        let z : eqb (getD begins i 0) (t .0) ≡ false = omega tests in
+        rw (behind-kind i h k, x .cancelled, z))
+        (λ x. rw (behind-kind i h k, x .uncancelled, b))
+        (here i k .rest)
+
+    -- the next record is applied, or passed over
+    module _ (i : ℕ) (h : front ≤ i) (k : i < countOf p) where
+      pub next-applied : (u : State) → getD begins i 0 ≡ t .0
+          → appliedAll u (kept (changesAt t) (drop i slices)) ≡ appliedAll (applied u (slice i)) (kept (changesAt t) (drop (i + 1) slices))
+      next-applied u e = ap (λ (l : List Slice). appliedAll u (kept (changesAt t) l)) (slices-at p i k roomy) ∙ rw (change-here i h k ∙ eq-eqb (getD begins i 0) (t .0) e)
+
+      pub next-passed : (getD begins i 0 ≡ t .0 → ⊥) → kept (changesAt t) (drop i slices) ≡ kept (changesAt t) (drop (i + 1) slices)
+      next-passed e = ap (kept (changesAt t)) (slices-at p i k roomy) ∙ rw (change-here i h k ∙ ne-eqb (getD begins i 0) (t .0) e)
+
+  -- and in front none is
+  front-none : (t : Instant) (j : ℕ) → j < front → changesAt t (slice j) ≡ false
+  unfolding changesAt counts viewOf
+  front-none t j h = rw (front-kind j h)
+
+  -- so those of an instant stand behind the front
+  pub front-still : (t : Instant) → kept (changesAt t) slices ≡ kept (changesAt t) (drop front slices)
+  front-still t =
+      kept-behind (changesAt t) (slice 0) front slices
+      (λ j h k. ap (changesAt t) (slice-at p j (slice 0) (omega (tests, slices-length p)) roomy) ∙ front-none t j h)
+
+  -- after the last opening no PERMDELTA of an instant opens the life
+  pub quiet : (last : ℕ) → OpenedBy p front last → (t : Instant) → t .0 < noInstant → last < t .0
+      → (d : Slice) → In d slices → changesAt t d ≡ true → isNone (d .life .begin) ≡ true
+  unfolding viewOf
+  quiet last openings t late after d m y =
+      let (j, h, e) = in-at slices d (slice 0) m in
+      let k : j < countOf p = omega (tests, slices-length p) in
+      let seen : slice j ≡ d = sym (slice-at p j (slice 0) k roomy) ∙ e in
+      by-test (ltb j front) (λ z. contrary (ap (changesAt t) seen ∙ y) (front-none t j (omega tests)))
+      (λ z. let here′ : getD begins j 0 ≡ t .0 = eqb-true _ _ (sym (change-here t late j (omega tests) k) ∙ ap (changesAt t) seen ∙ y) in
+      ⊎-elim (λ n. ap (λ (s : Slice). isNone (s .life .begin)) (sym seen) ∙ n) (λ l. absurd (omega (tests, noted j k .0))) (openings j (omega tests) k))
+
+  -- ---- the next change instant
+  abbrev instant : ℕ → Instant
+  instant n = record { 0 = n }
+
+  in-slices : (j : ℕ) → j < countOf p → In (slice j) slices
+  in-slices j h =
+      subst (λ s. In s slices) (slice-at p j (slice j) h roomy) (getD-in slices j (slice j) (omega (tests, slices-length p)))
+
+  -- a record gives no time, or counts as what it is
+  timeless-or : (j : ℕ) → j < countOf p → Timeless (at j) ⊎ ((kind : ℕ) → kindOf (at j) ≡ kind → counts kind (slice j) ≡ true)
+  unfolding counts viewOf
+  timeless-or j h = ⊎-elim (λ x. inl (full-timeless (at j) (x .timeless))) (λ x. inr (λ kind e. rw (x .uncancelled) (rw (eq-eqb (kindOf (at j)) kind e)))) (here j h .rest)
+
+  -- each begin is none or a change instant, and so are the end and the life end in front
+  none-of : (n m : ℕ) → n ≡ m → m ≡ noInstant → Changing slices (instant n)
+  none-of n m e f = inl (instant-of (instant n) none (e ∙ f))
+
+  one-of : (n : ℕ) (x : Instant) → n ≡ x .0 → Changing slices x → Changing slices (instant n)
+  one-of n x e = subst (Changing slices) (sym (instant-of (instant n) x e))
+
+  begin-told : (j : ℕ) → j < countOf p → Changing slices (instant (getD begins j 0))
+  unfolding viewOf
+  begin-told j h =
+      let e = noted j h .0 in
+      ⊎-elim (λ x. none-of _ _ e (x .0))
+      (λ c. one-of _ (periodOf (at j) .begin) e
+      (⊎-elim (λ k. begin-changing slices (slice j) (in-slices j h) (c baseline k)) (λ k. delta-changing slices (slice j) (in-slices j h) (c permdelta k)) (two-kinds j h)))
+      (timeless-or j h)
+
+  module _ (j : ℕ) (h : j < front) where
+    within : j < countOf p
+    within = omega (tests, fronted .most)
+
+    end-told : Changing slices (instant (getD ends j 0))
+    unfolding viewOf
+    end-told =
+        let e = noted j within .1 in
+        ⊎-elim (λ x. none-of _ _ e (x .1)) (λ c. one-of _ (periodOf (at j) .end) e (end-changing slices (slice j) (in-slices j within) (c baseline (front-kind j h)))) (timeless-or j within)
+
+    gone-told : Changing slices (instant (getD gones j 0))
+    unfolding viewOf
+    gone-told =
+        let e = noted j within .2 in
+        ⊎-elim (λ x. none-of _ _ e (x .2)) (λ c. one-of _ (lifeOf (at j) .end) e (life-changing slices (slice j) (in-slices j within) (c baseline (front-kind j h)))) (timeless-or j within)
+
+  -- and each change instant is a noted time
+  abbrev Told : ℕ → Type 0
+  Told n = ((j : ℕ) × (j < countOf p) × (getD begins j 0 ≡ n)) ⊎ (((j : ℕ) × (j < front) × (getD ends j 0 ≡ n)) ⊎ ((j : ℕ) × (j < front) × (getD gones j 0 ≡ n)))
+
+  told-by : (j : ℕ) → j < countOf p → (x : Instant) → In x (changesBy (slice j)) → Told (x .0)
+  unfolding changesBy viewOf
+  told-by j h x =
+      let (b, e, g) = noted j h in
+      let begin : (x ≡ periodOf (at j) .begin) → Told (x .0) = λ q. inl (j, h, b ∙ sym (ap (λ i. i .0) q)) in
+      pick-ind (λ l. In x l → Told (x .0)) (counts baseline (slice j))
+      (λ y. let k : kindOf (at j) ≡ baseline = counts-kind baseline (slice j) y in
+      let f : j < front = by-test (ltb j front) (λ z. omega tests) (λ z. absurd (omega (tests, fronted .behind j (omega tests) h))) in
+      ⊎-elim begin (⊎-elim (λ q. inr (inl (j, f, e ∙ sym (ap (λ i. i .0) q)))) (⊎-elim (λ q. inr (inr (j, f, g ∙ sym (ap (λ i. i .0) q)))) (λ m. absurd m))))
+      (λ _. pick-ind (λ l. In x l → Told (x .0)) (counts permdelta (slice j)) (λ _. ⊎-elim begin (λ m. absurd m)) (λ _ m. absurd m))
+
+  change-told : (x : Instant) → In x (changeInstants slices) → Told (x .0)
+  change-told x m =
+      let ((s, i, k), _) = changes-from slices x m in
+      let (j, h, e) = in-at slices s (slice 0) i in
+      let l : j < countOf p = omega (tests, slices-length p) in
+      told-by j l x (subst (λ s. In x (changesBy s)) (sym e ∙ slice-at p j (slice 0) l roomy) k)
+
+  -- THE NEXT CHANGE INSTANT is the soonest of the noted times
+  pub since-told : (from : Instant) → Bounded slices → (a b r : ℕ) → Least (from .0) noInstant begins (countOf p) a → Least (from .0) a ends front b
+      → Least (from .0) b gones front r → instant r ≡ changeSince from p
+  unfolding changeSince
+  since-told from low a b r first second third =
+      let n = nextOf (later slices from) in
+      let bound : n .0 ≤ noInstant = walk-below slices from low in
+      let far : (x : ℕ) → Changing slices (instant x) → from .0 ≤ x → n .0 ≤ x =
+      λ x c k. ⊎-elim (λ e. omega (tests, ap (λ i. i .0) e)) (λ m. later-least slices from (instant x) m k) c in
+      let u : n .0 ≤ a = ⊎-elim (λ e. omega tests) (λ (j, h, e, k). omega (tests, far (getD begins j 0) (begin-told j h) (omega tests))) (first .one) in
+      let v : n .0 ≤ b = ⊎-elim (λ e. omega tests) (λ (j, h, e, k). omega (tests, far (getD ends j 0) (end-told j h) (omega tests))) (second .one) in
+      let w : n .0 ≤ r = ⊎-elim (λ e. omega tests) (λ (j, h, e, k). omega (tests, far (getD gones j 0) (gone-told j h) (omega tests))) (third .one) in
+      let x : r ≤ a = omega (tests, second .most, third .most) in
+      let y : r ≤ n .0 = ⊎-elim (λ e. omega (tests, first .most, ap (λ i. i .0) e))
+      (λ (m, k). ⊎-elim (λ (j, h, e). omega (tests, first .least j h (omega tests)))
+      (⊎-elim (λ (j, h, e). omega (tests, third .most, second .least j h (omega tests))) (λ (j, h, e). omega (tests, third .least j h (omega tests))))
+      (change-told n m)) (later-next slices from) in
+      instant-of (instant r) n (omega tests)
