@@ -46,6 +46,12 @@ pub const PLAIN: Library = Library {
     listing: |permanent, text| Reply::of_listing(plain::list(permanent, text)),
 };
 
+/// The plain program that derives in a walk, as the library does.
+pub const BY_WALK: Library = Library {
+    derive: |permanent, output| Reply::of_derived(plain::derive_by_walk(permanent, output)),
+    ..PLAIN
+};
+
 /// The plain program that derives in sweeps without a heap.
 pub const BY_SWEEPS: Library = Library {
     derive: |permanent, output| Reply::of_derived(plain::derive_by_sweeps(permanent, output)),

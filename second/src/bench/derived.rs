@@ -1,7 +1,7 @@
 //! Measures derived baselines: the library against the plain programs, in steps and in sweeps.
 
 use super::{median, COUNTS, RECORDS, TIME};
-use crate::library::{Library, Reply, BY_SWEEPS, ON_HEAP, PLAIN};
+use crate::library::{Library, Reply, BY_SWEEPS, BY_WALK, ON_HEAP, PLAIN};
 use crate::random::Random;
 use crate::record::{Kind, NONE};
 use crate::supply::{parts, STRETCH};
@@ -14,11 +14,13 @@ use std::time::{Duration, Instant};
 /// The head of what is printed.
 const HEAD: &str = "
 Derived baselines, as many as each table has records, into an output that they fill.
-Row: BASELINEs that touch, a change in each. Line: one BASELINE and changes after it.
-steps: the plain program of the same steps, a pass over the records for each change instant and state.
+Row: BASELINEs that touch, a change in each. Line: one BASELINE and changes after it. Open: no BASELINE, but a change that opens
+the life, and changes after it.
+steps: the plain program that makes each state afresh, a pass over the records for each change instant and state.
+walk: the plain program of our steps, which notes the times and goes on from the state before.
 sweep: the plain program that sorts them first, without a heap; heap: the same on the heap.
 
-table  count    ours ns   steps ns  ours/steps   sweep ns  ours/sweep    heap ns  ours/heap  ours ns/record  steps ns/record";
+table  count    ours ns   steps ns  ours/steps    walk ns   ours/walk   sweep ns  ours/sweep    heap ns   ours/heap  ours ns/record";
 
 /// What the tables are like.
 #[derive(Clone, Copy, Debug)]
@@ -27,14 +29,16 @@ enum Shape {
     Row,
     /// One BASELINE and changes after it.
     Line,
+    /// A change that opens the life, and changes after it.
+    Open,
 }
 
 /// Measures everything so many times and prints the medians; answers whether every call answered as it
 /// should.
 pub fn run(library: &Library, rounds: usize) -> bool {
     println!("{HEAD}");
-    let libraries = [library, &PLAIN, &BY_SWEEPS, &ON_HEAP];
-    for shape in [Shape::Row, Shape::Line] {
+    let libraries = [library, &PLAIN, &BY_WALK, &BY_SWEEPS, &ON_HEAP];
+    for shape in [Shape::Row, Shape::Line, Shape::Open] {
         for count in COUNTS {
             let tables = tables(shape, count);
             if !libraries.iter().all(|one| is_right(one, &tables, count)) {
@@ -62,6 +66,7 @@ fn cases(shape: Shape, count: usize, random: &mut Random) -> Vec<Case> {
     let baselines = match shape {
         Shape::Row => count / 2,
         Shape::Line => 1,
+        Shape::Open => 0,
     };
     let at = |index: usize| (index * STRETCH) as u32;
     let mut cases = vec![];
@@ -72,7 +77,13 @@ fn cases(shape: Shape, count: usize, random: &mut Random) -> Vec<Case> {
     }
     for index in 0..count - baselines {
         let inside = at(index) + STRETCH as u32 / 2;
-        cases.push(case(random, Kind::PermDelta, index, [inside, NONE]));
+        let change = case(random, Kind::PermDelta, index, [inside, NONE]);
+        let is_opening = baselines == 0 && index == 0;
+        cases.push(if is_opening {
+            change.with_times([inside, NONE, inside, NONE])
+        } else {
+            change
+        });
     }
     cases
 }
@@ -95,9 +106,9 @@ fn is_right(library: &Library, tables: &[Vec<u8>], count: usize) -> bool {
 }
 
 /// Measures libraries by turns; answers the medians, in nanoseconds a call.
-fn measure(libraries: [&Library; 4], tables: &[Vec<u8>], count: usize, rounds: usize) -> [f64; 4] {
+fn measure(libraries: [&Library; 5], tables: &[Vec<u8>], count: usize, rounds: usize) -> [f64; 5] {
     let mut output = vec![0; bytes_of(count)];
-    let mut times = [const { vec![] }; 4];
+    let mut times = [const { vec![] }; 5];
     for _ in 0..rounds {
         for (times, library) in times.iter_mut().zip(libraries) {
             times.push(time(library, tables, &mut output));
@@ -121,13 +132,12 @@ fn time(library: &Library, tables: &[Vec<u8>], output: &mut [u8]) -> f64 {
 }
 
 /// Answers the line of a shape and a count.
-fn row(shape: Shape, count: usize, [ours, steps, sweep, heap]: [f64; 4]) -> String {
+fn row(shape: Shape, count: usize, [ours, plain @ ..]: [f64; 5]) -> String {
     let name = format!("{shape:?}");
     let start = format!("{name:5}  {count:5}  {ours:9.1}");
-    let [first, second] = [steps, sweep].map(|time| format!("{time:9.1}  {:10.2}", ours / time));
-    let third = format!("{heap:9.1}  {:9.2}", ours / heap);
-    let [one, other] = [ours, steps].map(|time| time / count as f64);
-    format!("{start}  {first}  {second}  {third}  {one:14.1}  {other:15.1}")
+    let others = plain.map(|time| format!("{time:9.1}  {:10.2}", ours / time));
+    let each = ours / count as f64;
+    format!("{start}  {}  {each:14.1}", others.join("  "))
 }
 
 #[cfg(test)]
@@ -138,7 +148,7 @@ mod tests {
     /// As many derived baselines as records, each of them from one change instant to the next.
     #[test]
     fn tables_are_what_they_are_called() {
-        for shape in [Shape::Row, Shape::Line] {
+        for shape in [Shape::Row, Shape::Line, Shape::Open] {
             for count in COUNTS {
                 for table in tables(shape, count) {
                     assert_eq!(table.len(), bytes_of(count));
