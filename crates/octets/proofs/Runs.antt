@@ -1,17 +1,17 @@
 -- Laws of runs of bytes: a run is told by the number that it makes. Assumes nothing.
-use Prim.Native.Nat.{ℕ, zero, suc, _+_, _*_, _-_, _≤_, _<_}
+use Prim.Native.Nat.{ℕ, zero, suc, _+_, _*_, _-_, _^_, _≤_, _<_}
 use mathlib.Core.Path.{_≡_, refl, sym, _∙_, ap}
 use mathlib.Core.List.{List}
 use mathlib.Core.Bool.{Bool, true, false, _&&_}
-use native.Mathlib.Nat.{add-zero, zero-add}
+use native.Mathlib.Nat.{add-zero, zero-add, mul-assoc, mul-le-mul-right, pow-suc}
 use native.Mathlib.Omega.{arith}
 use lib.ListN.{length, drop, length-drop}
 use lib.Seq.{ext-getD, getD-drop}
 use lib.Dec.{leb, ltb, eqb}
 use borrow.Author.Tests.{le-leb, eq-eqb, leb-true, eqb-true, eqb-false}
-use Rattle.laws.proofs.Tests.{tests, iff, and-assoc, and-both, and-true, and-false}
+use Rattle.laws.proofs.Tests.{tests, iff, by-test, and-assoc, and-both, and-true, and-false}
 use Rattle.octets.specs.Bytes.{byteOf, digits, each, there, leOf, filled, sameBytes}
-use Rattle.octets.proofs.Readers.{le-whole}
+use Rattle.octets.proofs.Readers.{le-whole, digits-below}
 
 -- what the elements of a list of bytes are
 abbrev pub Bytes : List ℕ → Type 0
@@ -102,50 +102,57 @@ each-mirror test k n m at last = iff _ _ there-and back
         let e : at + k + (n - 1 - i) ≡ at + (m - (0 + i)) = omega arith in
         rw e at (each-at test n (at + k) h (n - 1 - i) (omega arith)))
 
--- what eight digits are below, where the first of them are 0
-last-two : (d x y : ℕ) → x < 256 → y < 256 → ltb ((d * 256 + x) * 256 + y) 65536 ≡ eqb d 0
-last-two d x y hx hy = go (eqb d 0) refl
-  where
-    go : (b : Bool) → eqb d 0 ≡ b → ltb ((d * 256 + x) * 256 + y) 65536 ≡ b
-    go true e = omega (tests, eqb-true d 0 e)
-    go false e = omega (tests, eqb-false d 0 e)
+-- the number of n digits and of k more behind them
+digits-join : (f : ℕ → ℕ) (n k at : ℕ) → digits f (n + k) at ≡ digits f n at * 256 ^ k + digits f k (at + n)
+digits-join f n zero at = rw (add-zero n) (omega arith)
+digits-join f n (suc k) at =
+    let e : n + suc k ≡ suc (n + k) = omega arith in
+    let g : at + (n + k) ≡ at + n + k = omega arith in
+    let up : digits f n at * 256 ^ suc k ≡ digits f n at * 256 ^ k * 256 = rw pow-suc (sym (mul-assoc (digits f n at) (256 ^ k) 256)) in
+    rw (e, g) (omega (arith, digits-join f n k at))
 
-last-four : (d x y z w : ℕ) → x < 256 → y < 256 → z < 256 → w < 256 → ltb ((((d * 256 + x) * 256 + y) * 256 + z) * 256 + w) 4294967296 ≡ eqb d 0
-last-four d x y z w hx hy hz hw = go (eqb d 0) refl
-  where
-    go : (b : Bool) → eqb d 0 ≡ b → ltb ((((d * 256 + x) * 256 + y) * 256 + z) * 256 + w) 4294967296 ≡ b
-    go true e = omega (tests, eqb-true d 0 e)
-    go false e = omega (tests, eqb-false d 0 e)
+zero-digits : (n at : ℕ) → digits (λ _. 0) n at ≡ 0
+zero-digits zero at = refl
+zero-digits (suc n) at = rw (zero-digits n at)
+
+-- what is d times p and a rest lies below p where d is 0
+below-is : (d p x : ℕ) → x < p → ltb (d * p + x) p ≡ eqb d 0
+below-is d p x h =
+    by-test (eqb d 0) (λ e. rw (e, eqb-true d 0 e) (omega tests))
+    (λ e. let one : 1 ≤ d = omega (arith, eqb-false d 0 e) in
+    let most : 1 * p ≤ d * p = mul-le-mul-right p one in
+    rw e (omega tests))
 
 module _ (s : List ℕ) (at : ℕ) (bytes : Bytes s) (h : at + 8 ≤ length s) where
+  -- the byte at each place is that of f
+  low : (f : ℕ → ℕ) → ((i : ℕ) → f i < 256) → each (λ i. eqb (byteOf s i) (f i)) 8 at ≡ eqb (leOf 8 s at) (digits (λ i. f (at + (7 - i))) 8 0)
+  low f small =
+      sym (rw (le-whole 8 s at h)
+      (same-digits (λ i. byteOf s (at + (7 - i))) (λ i. f (at + (7 - i))) (λ i. bytes (at + (7 - i))) (λ i. small (at + (7 - i))) 8 0)
+      ∙ each-mirror (λ j. eqb (byteOf s j) (f j)) 0 8 7 at refl
+      ∙ ap (λ (k : ℕ). each (λ i. eqb (byteOf s i) (f i)) 8 k) (add-zero at))
+
   -- each byte is v
   pub low-is : (v : ℕ) → v < 256 → each (λ i. eqb (byteOf s i) v) 8 at ≡ eqb (leOf 8 s at) (digits (λ _. v) 8 0)
-  low-is v small =
-      sym (rw (le-whole 8 s at h) (same-digits (λ i. byteOf s (at + (7 - i))) (λ _. v) (λ i. bytes (at + (7 - i))) (λ _. small) 8 0)
-      ∙ each-mirror (λ j. eqb (byteOf s j) v) 0 8 7 at refl ∙ ap (λ (k : ℕ). each (λ i. eqb (byteOf s i) v) 8 k) (add-zero at))
+  low-is v small = low (λ _. v) (λ _. small)
 
   -- the bytes are those of another list
   pub low-same : (t : List ℕ) → Bytes t → at + 8 ≤ length t → each (λ i. eqb (byteOf s i) (byteOf t i)) 8 at ≡ eqb (leOf 8 s at) (leOf 8 t at)
-  low-same t bytes' h' =
-      sym (rw (le-whole 8 s at h, le-whole 8 t at h')
-      (same-digits (λ i. byteOf s (at + (7 - i))) (λ i. byteOf t (at + (7 - i))) (λ i. bytes (at + (7 - i))) (λ i. bytes' (at + (7 - i))) 8 0)
-      ∙ each-mirror (λ j. eqb (byteOf s j) (byteOf t j)) 0 8 7 at refl
-      ∙ ap (λ (k : ℕ). each (λ i. eqb (byteOf s i) (byteOf t i)) 8 k) (add-zero at))
+  low-same t bytes' h' = rw (le-whole 8 t at h') (low (byteOf t) bytes')
 
   -- the last n of them are 0, from k behind on
-  zeros : (k n : ℕ) → 8 ≡ k + n → eqb (digits (λ i. byteOf s (at + (7 - i))) n 0) (digits (λ _. 0) n 0) ≡ filled 0 n s (at + k)
+  past : (k n : ℕ) → 8 ≡ k + n → ltb (leOf 8 s at) (256 ^ k) ≡ filled 0 n s (at + k)
   unfolding filled
-  zeros k n e =
-      same-digits (λ i. byteOf s (at + (7 - i))) (λ _. 0) (λ i. bytes (at + (7 - i))) (λ _. omega arith) n 0
+  past k n e =
+      let f : ℕ → ℕ = λ i. byteOf s (at + (7 - i)) in
+      let eight : 8 ≡ n + k = omega arith in
+      let split : leOf 8 s at ≡ digits f n 0 * 256 ^ k + digits f k (0 + n) = le-whole 8 s at h ∙ ap (λ (m : ℕ). digits f m 0) eight ∙ digits-join f n k 0 in
+      ap (λ (x : ℕ). ltb x (256 ^ k)) split
+      ∙ below-is (digits f n 0) (256 ^ k) (digits f k (0 + n)) (digits-below f (λ i. bytes (at + (7 - i))) k (0 + n))
+      ∙ ap (eqb (digits f n 0)) (sym (zero-digits n 0))
+      ∙ same-digits f (λ _. 0) (λ i. bytes (at + (7 - i))) (λ _. omega arith) n 0
       ∙ each-mirror (λ j. eqb (byteOf s j) 0) k n 7 at e
       ∙ rw (le-leb (at + k + n) (length s) (omega arith))
-
-  pub past-two : ltb (leOf 8 s at) 65536 ≡ filled 0 6 s (at + 2)
-  past-two = rw (le-whole 8 s at h) (last-two (digits (λ i. byteOf s (at + (7 - i))) 6 0) _ _ (bytes (at + 1)) (bytes (at + 0)) ∙ zeros 2 6 refl)
-
-  pub past-four : ltb (leOf 8 s at) 4294967296 ≡ filled 0 4 s (at + 4)
-  past-four =
-      rw (le-whole 8 s at h) (last-four (digits (λ i. byteOf s (at + (7 - i))) 4 0) _ _ _ _ (bytes (at + 3)) (bytes (at + 2)) (bytes (at + 1)) (bytes (at + 0)) ∙ zeros 4 4 refl)
 
 -- eight bytes that were found to be there, and whose number is r
 pub filled-low : (v : ℕ) → v < 256 → (s : List ℕ) (at : ℕ) → Bytes s → (all : Bool) → all ≡ there 8 s at → all ≡ true
@@ -154,6 +161,11 @@ unfolding filled
 filled-low v small s at bytes all told held r is =
     let h : there 8 s at ≡ true = sym told ∙ held in
     rw (is, h) (sym (low-is s at bytes (leb-true _ _ h) v small))
+
+-- and so of the last n of them, from k behind on
+pub filled-past : (k n : ℕ) → 8 ≡ k + n → (s : List ℕ) (at : ℕ) → Bytes s → (all : Bool) → all ≡ there 8 s at → all ≡ true
+    → (r : ℕ) → r ≡ leOf 8 s at → ltb r (256 ^ k) ≡ filled 0 n s (at + k)
+filled-past k n e s at bytes all told held r is = rw is (past s at bytes (leb-true _ _ (sym told ∙ held)) k n e)
 
 -- n bytes that were found not to be there
 pub filled-short : (v n : ℕ) (s : List ℕ) (at : ℕ) (all : Bool) → all ≡ there n s at → all ≡ false → false ≡ filled v n s at

@@ -2,41 +2,17 @@
 use native.Mathlib.Nat.{add-zero}
 use native.Mathlib.Omega.{arith}
 use borrow.Author.Needs.{needs}
-use Rattle.octets.proofs.Readers.{be-short, be-whole}
+use Rattle.octets.proofs.Readers.{be-short, be-read}
 use Rattle.octets.proofs.be64.Statement.{statement}
 use Rattle.octets.proofs.be64.Tie as tie
-
-returns : tie.Need-returns
-returns c =
-    let a = c .before .before .args in
-    be-short 8 (a .s .now) (a .at) (omega arith)
-
-returns-2 : tie.Need-returns-2
-returns-2 c =
-    let a = c .before .before .before .args in
-    be-short 8 (a .s .now) (a .at) (omega arith)
-
-returns-3 : tie.Need-returns-3
-returns-3 c =
-    let a = c .before .before .before .before .before .before .before .before .before .before .before .before .before .args in
-    rw (be-whole 8 (a .s .now) (a .at) (omega arith), add-zero) (omega arith)
 
 pub be64-spec : {M : Type 1} → statement M
 be64-spec =
     tie.close
     (tie.spec
-    returns
+    (λ c. be-short _ _ _ (omega arith))
     (λ c. search needs)
-    returns-2
-    (λ c. search needs)
-    (λ c. search needs)
-    (λ c. search needs)
-    (λ c. search needs)
-    (λ c. search needs)
-    (λ c. search needs)
-    (λ c. search needs)
-    (λ c κs. search needs)
-    (λ c. search needs)
+    (λ c. be-short _ _ _ (omega arith))
     (λ c. search needs)
     (λ c. search needs)
     (λ c. search needs)
@@ -49,4 +25,13 @@ be64-spec =
     (λ c. search needs)
     (λ c. search needs)
     (λ c. search needs)
-    returns-3)
+    (λ c. search needs)
+    (λ c. search needs)
+    (λ c. search needs)
+    (λ c. search needs)
+    (λ c κs. search needs)
+    (λ c. search needs)
+    (λ c. search needs)
+    (λ c. search needs)
+    (λ c. search needs)
+    (λ c. be-read _ _ _ _ (omega arith) (rw add-zero (omega arith))))
