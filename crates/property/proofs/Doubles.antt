@@ -1,5 +1,4 @@
--- What the bits of a double say of its value.
--- Assumes nothing.
+-- What the bits of a double say of its value. Assumes nothing.
 use Prim.Native.Nat.{ℕ, zero, suc, _+_, _^_, _/_, _%_, _<_}
 use mathlib.Core.Path.{_≡_, refl, sym, _∙_, ap}
 use mathlib.Core.Bool.{Bool, true, false, not, cond}
@@ -36,11 +35,11 @@ fields s zero t = odd-finite 53 s t 0 1074
 fields s (suc x) t = by-field (eqb (suc x) 2047) (eqb t 0) s (odd 53 s (2 ^ 52 + t) x 1074) (odd-finite 53 s (2 ^ 52 + t) x 1074)
 
 module _ (y : ℕ) (h : y < 0x8000_0000_0000_0000) where
-  by-test : (b : Bool) → ltb y 0x7ff0_0000_0000_0000 ≡ b → b ≡ not (eqb (y / 0x10_0000_0000_0000) 2047)
-  by-test true e = sym (ap not (ne-eqb (y / 0x10_0000_0000_0000) 2047 (λ q. omega (arith, ltb-true y 0x7ff0_0000_0000_0000 e))))
-  by-test false e = sym (ap not (eq-eqb (y / 0x10_0000_0000_0000) 2047 (omega (arith, ltb-false y 0x7ff0_0000_0000_0000 e))))
+  by-exponent : (b : Bool) → ltb y 0x7ff0_0000_0000_0000 ≡ b → b ≡ not (eqb (y / 0x10_0000_0000_0000) 2047)
+  by-exponent true e = sym (ap not (ne-eqb (y / 0x10_0000_0000_0000) 2047 (λ q. omega (arith, ltb-true y 0x7ff0_0000_0000_0000 e))))
+  by-exponent false e = sym (ap not (eq-eqb (y / 0x10_0000_0000_0000) 2047 (omega (arith, ltb-false y 0x7ff0_0000_0000_0000 e))))
 
 -- below it, the finite ones
 pub finite-below : (b : ℕ) → ltb (b % 0x8000_0000_0000_0000) 0x7ff0_0000_0000_0000 ≡ finite (ofBits binary64 b)
 unfolding ofBits
-finite-below b = by-test (b % 0x8000_0000_0000_0000) (omega arith) _ refl ∙ sym (fields (leb 0x8000_0000_0000_0000 b) (b % 0x8000_0000_0000_0000 / 0x10_0000_0000_0000) (b % 0x10_0000_0000_0000))
+finite-below b = by-exponent (b % 0x8000_0000_0000_0000) (omega arith) _ refl ∙ sym (fields (leb 0x8000_0000_0000_0000 b) (b % 0x8000_0000_0000_0000 / 0x10_0000_0000_0000) (b % 0x10_0000_0000_0000))

@@ -29,10 +29,10 @@ pub found-start : (stride : ℕ) (bytes : List ℕ) → surveyOf stride bytes �
 unfolding surveyOf propertiesOf
 found-start stride bytes = rw (zero-add (first breaks (pieces stride 8 bytes)), zero-add (count mentioned (pieces stride 8 bytes)))
 
-pub found-bad : (i m : ℕ) (p : List ℕ) (ps : List (List ℕ)) → breaks p ≡ true → foundFrom i m (p ∷ ps) ≡ FirstBad i
+found-bad : (i m : ℕ) (p : List ℕ) (ps : List (List ℕ)) → breaks p ≡ true → foundFrom i m (p ∷ ps) ≡ FirstBad i
 found-bad i m p ps h = rw (h, add-zero)
 
-pub found-on : (i m : ℕ) (p : List ℕ) (ps : List (List ℕ)) → breaks p ≡ false
+found-on : (i m : ℕ) (p : List ℕ) (ps : List (List ℕ)) → breaks p ≡ false
     → foundFrom i m (p ∷ ps) ≡ foundFrom (i + 1) (m + cond (mentioned p) 1 0) ps
 found-on i m p ps h =
     let e : i + suc (first breaks ps) ≡ i + 1 + first breaks ps = omega arith in
@@ -43,7 +43,7 @@ pub found-end : (i m : ℕ) → foundFrom i m [] ≡ Mentions m
 found-end i m = rw add-zero
 
 -- the properties from the i-th on begin with the i-th
-pub pieces-on : (stride i : ℕ) (l : List ℕ) → i < 8 → pieces stride (8 - i) l ≡ take stride l ∷ pieces stride (8 - (i + 1)) (drop stride l)
+pieces-on : (stride i : ℕ) (l : List ℕ) → i < 8 → pieces stride (8 - i) l ≡ take stride l ∷ pieces stride (8 - (i + 1)) (drop stride l)
 pieces-on stride i l h = let e : 8 - i ≡ suc (8 - (i + 1)) = omega arith in rw e
 
 -- a property is mentioned where its value is a mention
@@ -71,31 +71,29 @@ module _ (stride i m : ℕ) (l : List ℕ) (h : i < 8) where
     unfolding breaks
     turn-broken e = turn-bad (rw (take-take 24 stride l wide, e))
 
-    -- it has a value
-    pub turn-good : (v : Value) → decodeOf (take 24 l) ≡ Good v
-        → foundFrom i m (pieces stride (8 - i) l) ≡ foundFrom (i + 1) (m + cond (isMention v) 1 0) (pieces stride (8 - (i + 1)) (drop stride l))
-    unfolding breaks
-    turn-good v e =
-        let value : valueOf (take stride l) ≡ Good v = ap decodeOf (take-take 24 stride l wide) ∙ e in
-        rw (pieces-on stride i l h) (found-on i m (take stride l) (pieces stride (8 - (i + 1)) (drop stride l)) (ap isBroken value)
-        ∙ ap (λ (b : Bool). foundFrom (i + 1) (m + cond b 1 0) (pieces stride (8 - (i + 1)) (drop stride l))) (mentioned-is (take stride l) v value))
+    -- it keeps the layout, and is a mention or is none
+    turn-on : (b : Bool) → breaks (take stride l) ≡ false → mentioned (take stride l) ≡ b
+        → foundFrom i m (pieces stride (8 - i) l) ≡ foundFrom (i + 1) (m + cond b 1 0) (pieces stride (8 - (i + 1)) (drop stride l))
+    turn-on b good told =
+        rw (pieces-on stride i l h) (found-on i m (take stride l) (pieces stride (8 - (i + 1)) (drop stride l)) good
+        ∙ ap (λ (x : Bool). foundFrom (i + 1) (m + cond x 1 0) (pieces stride (8 - (i + 1)) (drop stride l))) told)
 
-    -- it is a mention
     pub turn-mentioned : (isGood (decodeOf (take 24 l)) && mentions (byteOf (take 24 l) 0)) ≡ true
         → foundFrom i m (pieces stride (8 - i) l) ≡ foundFrom (i + 1) (m + 1) (pieces stride (8 - (i + 1)) (drop stride l))
     unfolding breaks mentioned
     turn-mentioned e =
+        let part = take-take 24 stride l wide in
         let q = and-both (isGood (decodeOf (take 24 l))) (mentions (byteOf (take 24 l) 0)) e in
-        let sound-part : breaks (take stride l) ≡ false = ap (λ (p : List ℕ). isBroken (decodeOf p)) (take-take 24 stride l wide) ∙ is-good (decodeOf (take 24 l)) (q .0) in
-        let told : mentioned (take stride l) ≡ true =
-        ap mentions (sym (getD-take 24 (take stride l) 0 0 (omega arith)) ∙ ap (λ (p : List ℕ). byteOf p 0) (take-take 24 stride l wide)) ∙ q .1 in
-        rw (pieces-on stride i l h) (found-on i m (take stride l) (pieces stride (8 - (i + 1)) (drop stride l)) sound-part
-        ∙ ap (λ (b : Bool). foundFrom (i + 1) (m + cond b 1 0) (pieces stride (8 - (i + 1)) (drop stride l))) told)
+        turn-on true (ap (λ (p : List ℕ). isBroken (decodeOf p)) part ∙ is-good (decodeOf (take 24 l)) (q .0))
+        (ap mentions (sym (getD-take 24 (take stride l) 0 0 (omega arith)) ∙ ap (λ (p : List ℕ). byteOf p 0) part) ∙ q .1)
 
-    -- it is not mentioned
     pub turn-silent : decodeOf (take 24 l) ≡ Good Unmentioned
         → foundFrom i m (pieces stride (8 - i) l) ≡ foundFrom (i + 1) m (pieces stride (8 - (i + 1)) (drop stride l))
-    turn-silent e = turn-good Unmentioned e ∙ ap (λ (n : ℕ). foundFrom (i + 1) n (pieces stride (8 - (i + 1)) (drop stride l))) (add-zero m)
+    unfolding breaks
+    turn-silent e =
+        let value : valueOf (take stride l) ≡ Good Unmentioned = ap decodeOf (take-take 24 stride l wide) ∙ e in
+        turn-on false (ap isBroken value) (mentioned-is (take stride l) Unmentioned value)
+        ∙ ap (λ (n : ℕ). foundFrom (i + 1) n (pieces stride (8 - (i + 1)) (drop stride l))) (add-zero m)
 
 -- ---- what an answer of the check tells
 bad : (b : Bool) (i m j : ℕ) → cond b (FirstBad i) (Mentions m) ≡ FirstBad j → b ≡ true

@@ -1,18 +1,18 @@
 -- Whether 24 bytes keep the layout, told by their first two bytes as one number. Assumes nothing.
-use Prim.Native.Nat.{ℕ, zero, suc, _+_, _*_, _<_}
+use Prim.Native.Nat.{ℕ, suc, _+_, _*_, _<_}
 use mathlib.Core.Path.{_≡_, refl, sym, _∙_, ap}
-use mathlib.Core.List.{List}
-use mathlib.Core.Bool.{Bool, true, false, cond, not, _&&_, _||_, or-false}
+use mathlib.Core.List.{List, [], _∷_}
+use mathlib.Core.Bool.{Bool, true, false, cond, not, _&&_, _||_, or-false, or-assoc}
 use native.Mathlib.Omega.{arith}
 use lib.ListN.{length}
 use lib.Dec.{eqb, leb}
 use lib.Ieee.{Float, binary64, ofBits, ofInt, neg, le}
-use borrow.Author.Tests.{not-false, eqb-true, eqb-false, eq-eqb, ne-eqb, leb-true, le-leb, lt-leb}
-use Rattle.laws.proofs.Tests.{tests, iff, by-test, never, contrary, and-both, and-assoc, and-true, and-false}
+use borrow.Author.Tests.{not-false, eqb-true, eqb-false, eq-eqb, leb-true, le-leb}
+use Rattle.laws.proofs.Tests.{tests, pick-ind, iff, by-test, never, contrary, and-both, and-assoc, and-true, and-false}
 use Rattle.octets.specs.Bytes.{byteOf, beOf, filled}
 use Rattle.octets.proofs.Readers.{be-whole}
 use Rattle.octets.proofs.Runs.{two-digits, filled-join}
-use Rattle.property.specs.Value.{mentions}
+use Rattle.property.specs.Value.{detailNumber, mentions}
 use Rattle.property.specs.Layout.{unused, doubleAt, finite, degrees, only, withDetail, nils, inUnits, unmentionedOf, nilOf, codeOf, numberOf, lengthOf, pointOf, formReading, decodeOf}
 use Rattle.property.specs.Eight.{isGood, isBroken}
 use Rattle.property.specs.declared.Value.{Value}
@@ -30,33 +30,34 @@ unfolding ofBits ofInt
 one-eighty x = refl
 
 -- a test and then a value
-pub good-only : (b : Bool) (v : Value) → isGood (only b (Good v)) ≡ b
+good-only : (b : Bool) (v : Value) → isGood (only b (Good v)) ≡ b
 unfolding only
 good-only true v = refl
 good-only false v = refl
 
-pub good-both : (b : Bool) (d : Decoded) → isGood (only b d) ≡ (b && isGood d)
+good-both : (b : Bool) (d : Decoded) → isGood (only b d) ≡ (b && isGood d)
 unfolding only
 good-both true d = refl
 good-both false d = refl
 
--- the details of a nil and of a length
-pub nil-details : (d : ℕ) → isGood (withDetail d nils) ≡ (leb 1 d && leb d 5)
-nil-details zero = refl
-nil-details (suc zero) = refl
-nil-details (suc (suc zero)) = refl
-nil-details (suc (suc (suc zero))) = refl
-nil-details (suc (suc (suc (suc zero)))) = refl
-nil-details (suc (suc (suc (suc (suc zero))))) = refl
-nil-details (suc (suc (suc (suc (suc (suc d)))))) = rw (ne-eqb (suc (suc (suc (suc (suc (suc d)))))) 1 (λ e. omega (arith, e)), ne-eqb (suc (suc (suc (suc (suc (suc d)))))) 2 (λ e. omega (arith, e)), ne-eqb (suc (suc (suc (suc (suc (suc d)))))) 3 (λ e. omega (arith, e)), ne-eqb (suc (suc (suc (suc (suc (suc d)))))) 4 (λ e. omega (arith, e)), ne-eqb (suc (suc (suc (suc (suc (suc d)))))) 5 (λ e. omega (arith, e)), lt-leb (suc (suc (suc (suc (suc (suc d)))))) 5 (omega arith)) (sym (and-false (leb 1 (suc (suc (suc (suc (suc (suc d)))))))))
+-- values whose details are the numbers from k on
+abbrev From : ℕ → List Value → Type 0
+From k [] = Unit {0}
+From k (v ∷ vs) = (detailNumber v ≡ k) × From (suc k) vs
 
-pub unit-details : (x : Float) (d : ℕ) → isGood (withDetail d (inUnits x)) ≡ (leb 1 d && leb d 4)
-unit-details x zero = refl
-unit-details x (suc zero) = refl
-unit-details x (suc (suc zero)) = refl
-unit-details x (suc (suc (suc zero))) = refl
-unit-details x (suc (suc (suc (suc zero)))) = refl
-unit-details x (suc (suc (suc (suc (suc d))))) = rw (ne-eqb (suc (suc (suc (suc (suc d))))) 1 (λ e. omega (arith, e)), ne-eqb (suc (suc (suc (suc (suc d))))) 2 (λ e. omega (arith, e)), ne-eqb (suc (suc (suc (suc (suc d))))) 3 (λ e. omega (arith, e)), ne-eqb (suc (suc (suc (suc (suc d))))) 4 (λ e. omega (arith, e)), lt-leb (suc (suc (suc (suc (suc d))))) 4 (omega arith)) (sym (and-false (leb 1 (suc (suc (suc (suc (suc d))))))))
+-- one of them has a detail that lies from k to n, where n is the last
+details : (d k n : ℕ) (vs : List Value) → From k vs → k + length vs ≡ suc n → isGood (withDetail d vs) ≡ (leb k d && leb d n)
+details d k n [] f e =
+    sym (never (leb k d && leb d n) (λ h.
+    let p = and-both (leb k d) (leb d n) h in
+    omega (arith, leb-true k d (p .0), leb-true d n (p .1))))
+details d k n (v ∷ vs) f e =
+    pick-ind (λ x. isGood x ≡ (leb k d && leb d n)) (eqb d (detailNumber v))
+    (λ h. let q = eqb-true d (detailNumber v) h in
+    sym (rw (le-leb k d (omega (arith, f .0)), le-leb d n (omega (arith, f .0)))))
+    (λ h. let q = eqb-false d (detailNumber v) h in
+    let same : leb (suc k) d ≡ leb k d = iff _ _ (λ x. omega (tests, f .0)) (λ x. omega (tests, f .0)) in
+    details d (suc k) n vs (f .1) (omega arith) ∙ rw same)
 
 and-swap : (a b c : Bool) → ((a && b) && c) ≡ (a && (c && b))
 and-swap true b true = and-true b
@@ -64,16 +65,23 @@ and-swap true b false = and-false b
 and-swap false b c = refl
 
 -- ---- one of five, or of none
-choose : (f : ℕ) (u : Bool) (x0 x1 x2 x3 x4 x5 : Decoded)
-    → (isGood (only u (cond (eqb f 0) x0 (cond (eqb f 1) x1 (cond (eqb f 2) x2 (cond (eqb f 3) x3 (cond (eqb f 4) x4 (cond (eqb f 5) x5 Broken))))))) && not (eqb f 0))
-    ≡ (u && (((eqb f 1 && isGood x1) || ((eqb f 2 && isGood x2) || ((eqb f 3 && isGood x3) || (eqb f 4 && isGood x4)))) || (eqb f 5 && isGood x5)))
-choose zero u x0 x1 x2 x3 x4 x5 = and-false (isGood (only u x0)) ∙ sym (and-false u)
-choose (suc zero) u x0 x1 x2 x3 x4 x5 = and-true _ ∙ good-both u x1 ∙ ap (λ (b : Bool). u && b) (sym (or-false (isGood x1 || false) ∙ or-false (isGood x1)))
-choose (suc (suc zero)) u x0 x1 x2 x3 x4 x5 = and-true _ ∙ good-both u x2 ∙ ap (λ (b : Bool). u && b) (sym (or-false (isGood x2 || false) ∙ or-false (isGood x2)))
-choose (suc (suc (suc zero))) u x0 x1 x2 x3 x4 x5 = and-true _ ∙ good-both u x3 ∙ ap (λ (b : Bool). u && b) (sym (or-false (isGood x3 || false) ∙ or-false (isGood x3)))
-choose (suc (suc (suc (suc zero)))) u x0 x1 x2 x3 x4 x5 = and-true _ ∙ good-both u x4 ∙ ap (λ (b : Bool). u && b) (sym (or-false (isGood x4)))
-choose (suc (suc (suc (suc (suc zero))))) u x0 x1 x2 x3 x4 x5 = and-true _ ∙ good-both u x5
-choose (suc (suc (suc (suc (suc (suc f)))))) u x0 x1 x2 x3 x4 x5 = rw (ne-eqb (suc (suc (suc (suc (suc (suc f)))))) 0 (λ e. omega (arith, e)), ne-eqb (suc (suc (suc (suc (suc (suc f)))))) 1 (λ e. omega (arith, e)), ne-eqb (suc (suc (suc (suc (suc (suc f)))))) 2 (λ e. omega (arith, e)), ne-eqb (suc (suc (suc (suc (suc (suc f)))))) 3 (λ e. omega (arith, e)), ne-eqb (suc (suc (suc (suc (suc (suc f)))))) 4 (λ e. omega (arith, e)), ne-eqb (suc (suc (suc (suc (suc (suc f)))))) 5 (λ e. omega (arith, e))) (and-true _ ∙ good-both u Broken)
+-- a reading of the forms from n on is good where b says so, and b says so of none below n
+abbrev Told : ℕ → ℕ → Decoded → Bool → Type 0
+Told n f x b = (isGood x ≡ b) × (f < n → b ≡ false)
+
+-- and so with form n in front
+told-more : (n f : ℕ) (x y : Decoded) (b : Bool) → Told (suc n) f y b → Told n f (cond (eqb f n) x y) ((eqb f n && isGood x) || b)
+told-more n f x y b (same, none) =
+    by-test (eqb f n)
+    (λ e. rw (e, none (omega (arith, eqb-true f n e))) (sym (or-false (isGood x)), λ l. absurd (omega (arith, eqb-true f n e))))
+    (λ e. rw e (same, λ l. none (omega arith)))
+
+-- form 0 is no mention
+told-mention : (f : ℕ) (u : Bool) (x y : Decoded) (b : Bool) → Told 1 f y b → (isGood (only u (cond (eqb f 0) x y)) && not (eqb f 0)) ≡ (u && b)
+told-mention f u x y b (same, none) =
+    by-test (eqb f 0)
+    (λ e. rw (e, none (omega (arith, eqb-true f 0 e))) (and-false (isGood (only u x)) ∙ sym (and-false u)))
+    (λ e. rw (e, and-true, good-both, same))
 
 -- a test that settles it early, and what is left where it does not
 pub early : (u a b : Bool) → (u && a) ≡ true → true ≡ (u && (a || b))
@@ -96,15 +104,15 @@ abbrev pub pointForm : List ℕ → Bool
 pointForm p = eqb (byteOf p 0) 5 && isGood (pointOf p)
 
 module _ (p : List ℕ) (bytes : (i : ℕ) → byteOf p i < 256) (h : length p ≡ 24) where
-  pub head : beOf 2 p 0 ≡ byteOf p 0 * 256 + byteOf p 1
+  head : beOf 2 p 0 ≡ byteOf p 0 * 256 + byteOf p 1
   head = be-whole 2 p 0 (omega (arith, h)) ∙ (omega arith)
 
   -- a form that leaves its detail unused
-  pub head-plain : (f : ℕ) → eqb (beOf 2 p 0) (f * 256 + 0) ≡ (eqb (byteOf p 0) f && eqb (byteOf p 1) 0)
+  head-plain : (f : ℕ) → eqb (beOf 2 p 0) (f * 256 + 0) ≡ (eqb (byteOf p 0) f && eqb (byteOf p 1) 0)
   head-plain f = rw head (two-digits (byteOf p 0) f (byteOf p 1) 0 (bytes 1) (omega arith))
 
   -- a form with a detail from 1 on
-  pub head-among : (f n : ℕ) → n < 256 → (leb (f * 256 + 1) (beOf 2 p 0) && leb (beOf 2 p 0) (f * 256 + n)) ≡ (eqb (byteOf p 0) f && (leb 1 (byteOf p 1) && leb (byteOf p 1) n))
+  head-among : (f n : ℕ) → n < 256 → (leb (f * 256 + 1) (beOf 2 p 0) && leb (beOf 2 p 0) (f * 256 + n)) ≡ (eqb (byteOf p 0) f && (leb 1 (byteOf p 1) && leb (byteOf p 1) n))
   head-among f n l = rw head (go (byteOf p 0) (byteOf p 1) (bytes 1))
     where
       go : (a d : ℕ) → d < 256 → (leb (f * 256 + 1) (a * 256 + d) && leb (a * 256 + d) (f * 256 + n)) ≡ (eqb a f && (leb 1 d && leb d n))
@@ -124,50 +132,55 @@ module _ (p : List ℕ) (bytes : (i : ℕ) → byteOf p i < 256) (h : length p �
               omega (arith, eqb-false a f e, leb-true (f * 256 + 1) (a * 256 + d) (q .0), leb-true (a * 256 + d) (f * 256 + n) (q .1)))
 
   -- ---- the forms
+  -- one that leaves its detail unused
+  plain-told : (f : ℕ) (rest : Bool) (v : Value)
+      → (eqb (beOf 2 p 0) (f * 256 + 0) && rest) ≡ (eqb (byteOf p 0) f && isGood (only (eqb (byteOf p 1) 0 && rest) (Good v)))
+  plain-told f rest v =
+      ap (λ (b : Bool). b && rest) (head-plain f)
+      ∙ and-assoc (eqb (byteOf p 0) f) (eqb (byteOf p 1) 0) rest
+      ∙ ap (λ (b : Bool). eqb (byteOf p 0) f && b) (sym (good-only (eqb (byteOf p 1) 0 && rest) v))
+
+  -- one that chooses among n values by its detail
+  chosen-told : (f n : ℕ) → n < 256 → (rest : Bool) (vs : List Value) → From 1 vs → 1 + length vs ≡ suc n
+      → ((leb (f * 256 + 1) (beOf 2 p 0) && leb (beOf 2 p 0) (f * 256 + n)) && rest)
+      ≡ (eqb (byteOf p 0) f && isGood (only rest (withDetail (byteOf p 1) vs)))
+  chosen-told f n few rest vs from e =
+      ap (λ (b : Bool). b && rest) (head-among f n few)
+      ∙ and-swap (eqb (byteOf p 0) f) (leb 1 (byteOf p 1) && leb (byteOf p 1) n) rest
+      ∙ ap (λ (b : Bool). eqb (byteOf p 0) f && b)
+      (sym (good-both rest (withDetail (byteOf p 1) vs) ∙ ap (λ (b : Bool). rest && b) (details (byteOf p 1) 1 n vs from e)))
+
   pub nil-told : ((leb 257 (beOf 2 p 0) && leb (beOf 2 p 0) 261) && unused 8 23 p) ≡ (eqb (byteOf p 0) 1 && isGood (nilOf p))
   unfolding nilOf
-  nil-told =
-      ap (λ (b : Bool). b && unused 8 23 p) (head-among 1 5 (omega arith))
-      ∙ and-swap (eqb (byteOf p 0) 1) (leb 1 (byteOf p 1) && leb (byteOf p 1) 5) (unused 8 23 p)
-      ∙ ap (λ (b : Bool). eqb (byteOf p 0) 1 && b) (sym (good-both (unused 8 23 p) (withDetail (byteOf p 1) nils) ∙ ap (λ (b : Bool). unused 8 23 p && b) (nil-details (byteOf p 1))))
+  nil-told = chosen-told 1 5 (omega arith) (unused 8 23 p) nils (refl, (refl, (refl, (refl, (refl, tt))))) refl
 
   pub code-told : (eqb (beOf 2 p 0) 512 && unused 10 23 p) ≡ (eqb (byteOf p 0) 2 && isGood (codeOf p))
   unfolding codeOf
-  code-told =
-      ap (λ (b : Bool). b && unused 10 23 p) (head-plain 2) ∙ and-assoc (eqb (byteOf p 0) 2) (eqb (byteOf p 1) 0) (unused 10 23 p)
-      ∙ ap (λ (b : Bool). eqb (byteOf p 0) 2 && b) (sym (good-only (eqb (byteOf p 1) 0 && unused 10 23 p) _))
+  code-told = plain-told 2 (unused 10 23 p) _
 
   pub number-told : (eqb (beOf 2 p 0) 768 && unused 12 23 p) ≡ (eqb (byteOf p 0) 3 && isGood (numberOf p))
   unfolding numberOf
-  number-told =
-      ap (λ (b : Bool). b && unused 12 23 p) (head-plain 3) ∙ and-assoc (eqb (byteOf p 0) 3) (eqb (byteOf p 1) 0) (unused 12 23 p)
-      ∙ ap (λ (b : Bool). eqb (byteOf p 0) 3 && b) (sym (good-only (eqb (byteOf p 1) 0 && unused 12 23 p) _))
+  number-told = plain-told 3 (unused 12 23 p) _
 
   pub length-told : ((leb 1025 (beOf 2 p 0) && leb (beOf 2 p 0) 1028) && (finite (doubleAt 8 p) && unused 16 23 p)) ≡ (eqb (byteOf p 0) 4 && isGood (lengthOf p))
   unfolding lengthOf
-  length-told =
-      ap (λ (b : Bool). b && (finite (doubleAt 8 p) && unused 16 23 p)) (head-among 4 4 (omega arith))
-      ∙ and-swap (eqb (byteOf p 0) 4) (leb 1 (byteOf p 1) && leb (byteOf p 1) 4) (finite (doubleAt 8 p) && unused 16 23 p)
-      ∙ ap (λ (b : Bool). eqb (byteOf p 0) 4 && b)
-      (sym (good-both (finite (doubleAt 8 p) && unused 16 23 p) (withDetail (byteOf p 1) (inUnits (doubleAt 8 p)))
-      ∙ ap (λ (b : Bool). (finite (doubleAt 8 p) && unused 16 23 p) && b) (unit-details (doubleAt 8 p) (byteOf p 1))))
+  length-told = chosen-told 4 4 (omega arith) (finite (doubleAt 8 p) && unused 16 23 p) (inUnits (doubleAt 8 p)) (refl, (refl, (refl, (refl, tt)))) refl
 
   pub point-told : (eqb (beOf 2 p 0) 1280 && (degrees 90 (doubleAt 8 p) && degrees 180 (doubleAt 16 p))) ≡ (eqb (byteOf p 0) 5 && isGood (pointOf p))
   unfolding pointOf
-  point-told =
-      ap (λ (b : Bool). b && (degrees 90 (doubleAt 8 p) && degrees 180 (doubleAt 16 p))) (head-plain 5)
-      ∙ and-assoc (eqb (byteOf p 0) 5) (eqb (byteOf p 1) 0) (degrees 90 (doubleAt 8 p) && degrees 180 (doubleAt 16 p))
-      ∙ ap (λ (b : Bool). eqb (byteOf p 0) 5 && b) (sym (good-only (eqb (byteOf p 1) 0 && (degrees 90 (doubleAt 8 p) && degrees 180 (doubleAt 16 p))) _))
+  point-told = plain-told 5 (degrees 90 (doubleAt 8 p) && degrees 180 (doubleAt 16 p)) _
 
   -- ---- all of them
-  pub mentioned-told : (isGood (decodeOf p) && mentions (byteOf p 0))
-      ≡ (unused 2 7 p && (((eqb (byteOf p 0) 1 && isGood (nilOf p)) || ((eqb (byteOf p 0) 2 && isGood (codeOf p))
-      || ((eqb (byteOf p 0) 3 && isGood (numberOf p)) || (eqb (byteOf p 0) 4 && isGood (lengthOf p))))) || (eqb (byteOf p 0) 5 && isGood (pointOf p))))
+  pub mentioned-told : (isGood (decodeOf p) && mentions (byteOf p 0)) ≡ (unused 2 7 p && (fourForms p || pointForm p))
   unfolding decodeOf formReading
-  mentioned-told = rw (eq-eqb (length p) 24 h) (choose (byteOf p 0) (unused 2 7 p) _ _ _ _ _ _)
+  mentioned-told =
+      let f = byteOf p 0 in
+      let five = told-more 5 f (pointOf p) Broken false (refl, λ _. refl) in
+      let from1 = told-more 1 f (nilOf p) _ _ (told-more 2 f (codeOf p) _ _ (told-more 3 f (numberOf p) _ _ (told-more 4 f (lengthOf p) _ _ five))) in
+      rw (eq-eqb (length p) 24 h) (told-mention f (unused 2 7 p) (unmentionedOf p) _ _ from1 ∙ simp (or-false, or-assoc))
 
 -- a reading that is no value
-pub not-good : (d : Decoded) → isGood d ≡ false → d ≡ Broken
+not-good : (d : Decoded) → isGood d ≡ false → d ≡ Broken
 not-good (Good v) e = contrary refl e
 not-good Broken e = refl
 
@@ -195,7 +208,7 @@ module _ (p : List ℕ) (h : length p ≡ 24) where
       let two = zeros-two (front .0) in
       rw (eq-eqb (length p) 24 h, front .1, two .0, two .1, q .1)
 
-  pub silent-told : isGood (decodeOf p) ≡ true → mentions (byteOf p 0) ≡ false → (filled 0 8 p 0 && filled 0 16 p 8) ≡ true
+  silent-told : isGood (decodeOf p) ≡ true → mentions (byteOf p 0) ≡ false → (filled 0 8 p 0 && filled 0 16 p 8) ≡ true
   unfolding decodeOf formReading unmentionedOf
   silent-told e s =
       let f : eqb (byteOf p 0) 0 ≡ true = not-false (eqb (byteOf p 0) 0) s in

@@ -6,39 +6,9 @@ use Rattle.property.specs.Layout.{formReading}
 use Rattle.property.proofs.by_form.Statement.{statement}
 use Rattle.property.proofs.by_form.Tie as tie
 
-returns : tie.Need-returns
+no-form : tie.Need-returns-7
 unfolding formReading
-returns c =
-    rw (c .unmentioned .ensures, sym (c .before .before .byte .ensures) ∙ c .before .match .keys1)
-
-returns-2 : tie.Need-returns-2
-unfolding formReading
-returns-2 c =
-    rw (c .nil .ensures, sym (c .before .before .byte .ensures) ∙ c .before .match .keys2)
-
-returns-3 : tie.Need-returns-3
-unfolding formReading
-returns-3 c =
-    rw (c .code .ensures, sym (c .before .before .byte .ensures) ∙ c .before .match .keys3)
-
-returns-4 : tie.Need-returns-4
-unfolding formReading
-returns-4 c =
-    rw (c .number .ensures, sym (c .before .before .byte .ensures) ∙ c .before .match .keys4)
-
-returns-5 : tie.Need-returns-5
-unfolding formReading
-returns-5 c =
-    rw (c .length-in-unit .ensures, sym (c .before .before .byte .ensures) ∙ c .before .match .keys5)
-
-returns-6 : tie.Need-returns-6
-unfolding formReading
-returns-6 c =
-    rw (c .point .ensures, sym (c .before .before .byte .ensures) ∙ c .before .match .keys6)
-
-returns-7 : tie.Need-returns-7
-unfolding formReading
-returns-7 c =
+no-form c =
     let r = c .match .rest in
     rw (← c .before .byte .ensures) (simp (ne-eqb _ _ (r .0 .0 .0 .0 .0 .1), ne-eqb _ _ (r .0 .0 .0 .0 .1), ne-eqb _ _ (r .0 .0 .0 .1), ne-eqb _ _ (r .0 .0 .1), ne-eqb _ _ (r .0 .1), ne-eqb _ _ (r .1)))
 
@@ -53,10 +23,10 @@ by-form-spec =
     (λ c κs. search needs)
     (λ c κs. search needs)
     (λ c κs. search needs)
-    returns
-    returns-2
-    returns-3
-    returns-4
-    returns-5
-    returns-6
-    returns-7)
+    (λ c. unfold formReading in rw (c .unmentioned .ensures, sym (c .before .before .byte .ensures) ∙ c .before .match .keys1))
+    (λ c. unfold formReading in rw (c .nil .ensures, sym (c .before .before .byte .ensures) ∙ c .before .match .keys2))
+    (λ c. unfold formReading in rw (c .code .ensures, sym (c .before .before .byte .ensures) ∙ c .before .match .keys3))
+    (λ c. unfold formReading in rw (c .number .ensures, sym (c .before .before .byte .ensures) ∙ c .before .match .keys4))
+    (λ c. unfold formReading in rw (c .length-in-unit .ensures, sym (c .before .before .byte .ensures) ∙ c .before .match .keys5))
+    (λ c. unfold formReading in rw (c .point .ensures, sym (c .before .before .byte .ensures) ∙ c .before .match .keys6))
+    no-form)

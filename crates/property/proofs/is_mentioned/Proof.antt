@@ -1,12 +1,8 @@
 -- `property::is_mentioned` meets its contract: one of the five forms that are mentions keeps its layout. Assumes nothing.
-use mathlib.Core.Path.{_≡_, sym, _∙_}
-use mathlib.Core.Bool.{Bool, _&&_, _||_}
+use mathlib.Core.Path.{sym, _∙_}
 use native.Mathlib.Omega.{arith}
-use lib.Dec.{eqb}
 use borrow.Author.Needs.{needs}
-use Rattle.octets.specs.Bytes.{byteOf}
-use Rattle.property.specs.Layout.{unused, nilOf, codeOf, numberOf, lengthOf, pointOf}
-use Rattle.property.specs.Eight.{isGood}
+use Rattle.property.specs.Layout.{unused}
 use Rattle.property.proofs.Sound.{mentioned-told, fourForms, pointForm, early, late}
 use Rattle.property.proofs.is_mentioned.Statement.{statement}
 use Rattle.property.proofs.is_mentioned.Tie as tie
@@ -31,4 +27,14 @@ returns-2 c =
     ∙ sym (mentioned-told p (λ i. s .shared-slice-known .given i .fits) (omega arith)))
 
 pub is-mentioned-spec : {M : Type 1} → statement M
-is-mentioned-spec = tie.close (tie.spec (λ c κs. search needs) (λ c κs. search needs) (λ c κs. search needs) (λ c κs. search needs) (λ c κs. search needs) returns (λ c κs. search needs) returns-2)
+is-mentioned-spec =
+    tie.close
+    (tie.spec
+    (λ c κs. search needs)
+    (λ c κs. search needs)
+    (λ c κs. search needs)
+    (λ c κs. search needs)
+    (λ c κs. search needs)
+    returns
+    (λ c κs. search needs)
+    returns-2)

@@ -8,7 +8,15 @@ returns : tie.Need-returns
 unfolding lengthOf
 returns c =
     let u = c .before .before .before in
-    rw (c .kept .ensures, c .before .in-unit .ensures, c .before .before .byte .ensures, u .double .ensures, u .before .blank8 .ensures, u .before .before .is-finite .ensures, u .before .before .before .be64 .ensures)
+    rw (
+      c .kept .ensures,
+      c .before .in-unit .ensures,
+      c .before .before .byte .ensures,
+      u .double .ensures,
+      u .before .blank8 .ensures,
+      u .before .before .is-finite .ensures,
+      u .before .before .before .be64 .ensures,
+    )
 
 pub length-in-unit-spec : {M : Type 1} → statement M
 length-in-unit-spec =

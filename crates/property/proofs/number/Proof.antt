@@ -10,7 +10,14 @@ returns : tie.Need-returns
 unfolding numberOf
 returns c =
     let n = c .before .before .signed-of in
-    rw (c .kept .ensures, toZ-ofZ w32 _ (record { sfits = n .ok }), n .ensures, c .before .unused-from-12 .ensures, c .before .before .before .be32 .ensures, c .before .before .before .before .byte .ensures)
+    rw (
+      c .kept .ensures,
+      toZ-ofZ w32 _ (record { sfits = n .ok }),
+      n .ensures,
+      c .before .unused-from-12 .ensures,
+      c .before .before .before .be32 .ensures,
+      c .before .before .before .before .byte .ensures,
+    )
 
 pub number-spec : {M : Type 1} → statement M
 number-spec =

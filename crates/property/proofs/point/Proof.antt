@@ -10,7 +10,16 @@ returns : tie.Need-returns
 unfolding pointOf
 returns c =
     let u = c .before .before .before in
-    rw (c .kept .ensures, c .before .within2 .ensures ∙ one-eighty _, c .before .before .within .ensures ∙ ninety _, u .double2 .ensures, u .before .be642 .ensures, u .before .before .double .ensures, u .before .before .before .be64 .ensures, u .before .before .before .before .byte .ensures)
+    rw (
+      c .kept .ensures,
+      c .before .within2 .ensures ∙ one-eighty _,
+      c .before .before .within .ensures ∙ ninety _,
+      u .double2 .ensures,
+      u .before .be642 .ensures,
+      u .before .before .double .ensures,
+      u .before .before .before .be64 .ensures,
+      u .before .before .before .before .byte .ensures,
+    )
 
 pub point-spec : {M : Type 1} → statement M
 point-spec =
