@@ -2,7 +2,7 @@
 use Prim.Native.Nat.{ℕ, suc, _+_, _*_, _≤_, _<_, min}
 use mathlib.Core.Path.{_≡_, refl, sym, ap, _∙_}
 use mathlib.Core.List.{List, [], _∷_, _++_, map, append-assoc, append-nil}
-use mathlib.Core.Bool.{Bool, true, false, not, _&&_, _||_}
+use mathlib.Core.Bool.{Bool, true, false, not, _&&_, _||_, and-true}
 use mathlib.Core.Logic.{inl, inr}
 use lib.Dec.{ltb}
 use native.Mathlib.Nat.{add-zero}
@@ -11,7 +11,7 @@ use lib.ListN.{length, take, drop, length-append, length-drop}
 use lib.Seq.{length-take-le, take-at}
 use borrow.Rule.Slice.PartMut.{midOf, postOf, putMid, same-len-mid, put-same}
 use Rattle.laws.specs.Lists.{any, kept, joined}
-use Rattle.laws.proofs.Tests.{tests, by-test, and-true}
+use Rattle.laws.proofs.Tests.{tests, by-test}
 use Rattle.laws.proofs.Lists.{take-past}
 use Rattle.laws.proofs.Pieces.{joined-append}
 use Rattle.numbers.specs.Numbers.{noInstant, none, isNone}

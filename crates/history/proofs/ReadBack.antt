@@ -3,11 +3,11 @@
 use Prim.Native.Nat.{ℕ, suc, _≤_, _<_}
 use mathlib.Core.Path.{_≡_, refl, sym, ap, _∙_}
 use mathlib.Core.List.{List, [], _∷_, _++_, map, append-nil}
-use mathlib.Core.Bool.{Bool, true, false, cond, _&&_}
+use mathlib.Core.Bool.{Bool, true, false, cond, _&&_, and-false}
 use mathlib.Core.Logic.{_⊎_, inl, inr, ⊎-elim}
 use Rattle.laws.specs.Lists.{kept}
 use Rattle.laws.specs.Keyed.{In}
-use Rattle.laws.proofs.Tests.{tests, pick-ind, by-test, and-false}
+use Rattle.laws.proofs.Tests.{tests, pick-ind, by-test}
 use Rattle.laws.proofs.Lists.{any-none}
 use Rattle.numbers.specs.Numbers.{noInstant, none, before, atMost}
 use Rattle.numbers.specs.declared.Instant.{Instant}

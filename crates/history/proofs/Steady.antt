@@ -2,11 +2,11 @@
 use Prim.Native.Nat.{_<_}
 use mathlib.Core.Path.{_≡_, refl, sym, ap, ap₂, _∙_}
 use mathlib.Core.List.{List, _∷_}
-use mathlib.Core.Bool.{Bool, true, false, cond, not, _&&_}
+use mathlib.Core.Bool.{Bool, true, false, cond, not, _&&_, and-false}
 use mathlib.Core.Logic.{_⊎_, inl, inr, ⊎-elim}
 use mathlib.Core.Option.{Option, none, some}
 use Rattle.laws.specs.Keyed.{In, sorted}
-use Rattle.laws.proofs.Tests.{tests, by-test, and-both, and-false}
+use Rattle.laws.proofs.Tests.{tests, by-test, and-both}
 use Rattle.numbers.specs.Numbers.{noInstant, none as noTime, given, before, atMost}
 use Rattle.numbers.specs.declared.Instant.{Instant}
 use Rattle.slice.specs.Record.{baseline, permdelta, Slice}

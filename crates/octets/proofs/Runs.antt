@@ -2,14 +2,14 @@
 use Prim.Native.Nat.{ℕ, zero, suc, _+_, _*_, _-_, _^_, _≤_, _<_}
 use mathlib.Core.Path.{_≡_, refl, sym, _∙_, ap}
 use mathlib.Core.List.{List}
-use mathlib.Core.Bool.{Bool, true, false, _&&_}
+use mathlib.Core.Bool.{Bool, true, false, _&&_, and-assoc, and-true, and-false}
 use native.Mathlib.Nat.{add-zero, zero-add, mul-assoc, mul-le-mul-right, pow-suc}
 use native.Mathlib.Omega.{arith}
 use lib.ListN.{length, drop, length-drop}
 use lib.Seq.{ext-getD, getD-drop}
 use lib.Dec.{leb, ltb, eqb}
 use borrow.Author.Tests.{le-leb, eq-eqb, leb-true, eqb-true, eqb-false}
-use Rattle.laws.proofs.Tests.{tests, iff, by-test, and-assoc, and-both, and-true, and-false}
+use Rattle.laws.proofs.Tests.{tests, iff, by-test, and-both}
 use Rattle.octets.specs.Bytes.{byteOf, digits, each, there, leOf, filled, sameBytes}
 use Rattle.octets.proofs.Readers.{le-whole, digits-below}
 

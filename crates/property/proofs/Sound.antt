@@ -2,13 +2,13 @@
 use Prim.Native.Nat.{ℕ, suc, _+_, _*_, _<_}
 use mathlib.Core.Path.{_≡_, refl, sym, _∙_, ap}
 use mathlib.Core.List.{List, [], _∷_}
-use mathlib.Core.Bool.{Bool, true, false, cond, not, _&&_, _||_, or-false, or-assoc}
+use mathlib.Core.Bool.{Bool, true, false, cond, not, _&&_, _||_, or-false, or-assoc, and-assoc, and-true, and-false}
 use native.Mathlib.Omega.{arith}
 use lib.ListN.{length}
 use lib.Dec.{eqb, leb}
 use lib.Ieee.{Float, binary64, ofBits, ofInt, neg, le}
 use borrow.Author.Tests.{not-false, eqb-true, eqb-false, eq-eqb, leb-true, le-leb}
-use Rattle.laws.proofs.Tests.{tests, pick-ind, iff, by-test, never, contrary, and-both, and-assoc, and-true, and-false}
+use Rattle.laws.proofs.Tests.{tests, pick-ind, iff, by-test, never, contrary, and-both}
 use Rattle.octets.specs.Bytes.{byteOf, beOf, filled}
 use Rattle.octets.proofs.Readers.{be-whole}
 use Rattle.octets.proofs.Runs.{two-digits, filled-join}

@@ -1,7 +1,7 @@
 -- The marks of the latest mention, step by step, and that a pass keeps for each part the mark of its latest mention. Assumes nothing.
 use Prim.Native.Nat.{ℕ, zero, suc, _+_, _≤_, _<_}
 use mathlib.Core.Path.{_≡_, refl, sym, ap, _∙_}
-use mathlib.Core.Bool.{Bool, true, false, cond, not, _&&_, _||_}
+use mathlib.Core.Bool.{Bool, true, false, cond, not, _&&_, _||_, and-false}
 use mathlib.Core.List.{List, [], _∷_}
 use mathlib.Core.Logic.{inl, inr, ⊎-elim}
 use mathlib.Core.Option.{Option, none, some}
@@ -11,7 +11,7 @@ use lib.Dec.{eqb, ltb, leb}
 use lib.Seq.{getD-set-same, getD-set-other}
 use Rattle.laws.specs.Orders.{lexLess}
 use Rattle.laws.specs.Keyed.{In}
-use Rattle.laws.proofs.Tests.{tests, by-test, contrary, and-both, and-false, or-either}
+use Rattle.laws.proofs.Tests.{tests, by-test, contrary, and-both, or-either}
 use Rattle.slice.specs.Record.{Slice}
 use Rattle.history.specs.Permanent.{turnLess}
 use Rattle.history.specs.Parts.{tells, Placed, passFrom, laterTurn, latestWith}

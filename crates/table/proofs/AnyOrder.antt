@@ -10,7 +10,7 @@ use Rattle.laws.specs.Lists.{kept}
 use Rattle.laws.specs.Keyed.{In, delivered}
 use Rattle.laws.proofs.Lists.{kept-in, map-in, in-map}
 use Rattle.laws.proofs.Fresh.{fresh-unique, afresh-fresh}
-use Rattle.laws.proofs.Order.{delivered-afresh, afresh-same, distinct-same}
+use Rattle.laws.proofs.Deliveries.{delivered-afresh, afresh-same, distinct-same}
 use Rattle.slice.specs.Record.{recordSize, keyOf, keyLess, sameKey}
 use Rattle.slice.proofs.Keys.{key-order}
 use Rattle.table.specs.Header.{stride1, roomOf, written}
@@ -36,8 +36,11 @@ module _ (buffer : List ℕ) (side : ℕ) (feature : List ℕ) (named : length f
   any-order ss agree fit =
       ap (λ (x : List ℕ). deliveredTo x ss) (sym (new-empty buffer side feature named made))
       ∙ deliveries (created Made buffer side feature) (new-sound buffer side feature named made) ss [] (record { good = λ r m. absurd m; up = tt; fits = omega arith })
-      ∙ (λ i. written (created Made buffer side feature) (delivered keyOf keyLess sameKey correctionNumber (new-room buffer side feature named made (recordSize stride1) i) [] (sentTo stride1 (new-feature buffer side feature named made i) side ss)))
-      ∙ ap (written (created Made buffer side feature)) (delivered-afresh keyOf keyLess sameKey key-order correctionNumber (roomOf (recordSize stride1) buffer) (sent feature side ss) agree fit)
+      ∙ (λ i. written (created Made buffer side feature)
+      (delivered keyOf keyLess sameKey correctionNumber (new-room buffer side feature named made (recordSize stride1) i) []
+      (sentTo stride1 (new-feature buffer side feature named made i) side ss)))
+      ∙ ap (written (created Made buffer side feature))
+      (delivered-afresh keyOf keyLess sameKey key-order correctionNumber (roomOf (recordSize stride1) buffer) (sent feature side ss) agree fit)
       ∙ new-written buffer side feature named made (recordsAfresh (sent feature side ss))
 
   -- slices that send the same records make the same bytes
