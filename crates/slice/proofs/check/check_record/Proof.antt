@@ -68,18 +68,10 @@ returns-3 : tie.Need-returns-3
 returns-3 c =
     c .refuse-with3 .ensures ∙ sym (past11 (c .before .before .before) ∙ rw (sym (c .before .before .reserved-clear .ensures) ∙ not-true _ (c .before .if3 .taken)))
 
-check-counted-requires : tie.Need-check-counted-requires
-check-counted-requires c κs =
-    whole (c .before .before)
-
 returns-4 : tie.Need-returns-4
 returns-4 c =
     let k = c .before .before in
     c .check-counted .ensures ∙ sym (past12 (k .before) ∙ rw (sym (k .is-cancelled .ensures) ∙ not-true _ (c .before .if4 .taken)))
-
-is-emptied-requires : tie.Need-is-emptied-requires
-is-emptied-requires c κs =
-    whole (c .before .before)
 
 returns-5 : tie.Need-returns-5
 returns-5 c =
@@ -108,9 +100,9 @@ check-record-spec =
     (λ c κs. search needs)
     returns-3
     (λ c κs. search needs)
-    check-counted-requires
+    (λ c κs. whole (c .before .before))
     returns-4
-    is-emptied-requires
+    (λ c κs. whole (c .before .before))
     (λ c κs. search needs)
     returns-5
     returns-6)

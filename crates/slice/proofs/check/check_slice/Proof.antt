@@ -1,5 +1,5 @@
 -- `slice::check::check_slice` meets its contract: past 9 and 10 what is left is the check of a record. Assumes nothing.
-use Prim.Native.Nat.{ℕ, _-_}
+use Prim.Native.Nat.{ℕ}
 use mathlib.Core.Path.{_≡_, sym, _∙_}
 use mathlib.Core.List.{List}
 use mathlib.Core.Bool.{not, cond}
@@ -49,22 +49,10 @@ returns : tie.Need-returns
 returns c =
     c .refuse-with .ensures ∙ sym (slice-is _ _ _ _ ∙ rw (sym (c .before .before .is-sized .ensures) ∙ not-true _ (c .before .if1 .taken)))
 
-part-same-end : tie.Need-part-same-end
-part-same-end c =
-    omega (arith, size c)
-
 returns-2 : tie.Need-returns-2
 returns-2 c =
     let m = c .before .before in
     c .refuse-with2 .ensures ∙ sym (past9 (m .before .before) ∙ rw (sym (m .same .ensures) ∙ not-true _ (c .before .if2 .taken)))
-
-sub-check-record : tie.Need-sub-check-record
-sub-check-record c =
-    omega (arith, size (c .before .before .before))
-
-part-check-record-start : tie.Need-part-check-record-start
-part-check-record-start c =
-    omega (arith, size (c .before .before .before))
 
 returns-3 : tie.Need-returns-3
 returns-3 c =
@@ -82,12 +70,12 @@ check-slice-spec =
     returns
     (λ c. search needs)
     (λ c. search needs)
-    part-same-end
+    (λ c. omega (arith, size c))
     (λ c κs. search needs)
     (λ c κs. search needs)
     returns-2
-    sub-check-record
-    part-check-record-start
+    (λ c. omega (arith, size (c .before .before .before)))
+    (λ c. omega (arith, size (c .before .before .before)))
     (λ c. search needs)
     (λ c κs. search needs)
     returns-3)

@@ -9,7 +9,16 @@ unfolding baselineTimes
 returns c =
     let u = c .before .before .before in
     let v = u .before .before .before in
-    rw (c .end-right .ensures, c .before .at-most2 .ensures, c .before .before .is-none4 .ensures, u .is-none3 .ensures, u .before .precedes .ensures, u .before .before .is-none2 .ensures, v .at-most .ensures, v .before .is-none .ensures)
+    rw (
+      c .end-right .ensures,
+      c .before .at-most2 .ensures,
+      c .before .before .is-none4 .ensures,
+      u .is-none3 .ensures,
+      u .before .precedes .ensures,
+      u .before .before .is-none2 .ensures,
+      v .at-most .ensures,
+      v .before .is-none .ensures,
+    )
 
 pub baseline-times-spec : {M : Type 1} → statement M
 baseline-times-spec =

@@ -8,7 +8,15 @@ returns : tie.Need-returns
 unfolding permdeltaTimes
 returns c =
     let u = c .before .before .before in
-    rw (c .is-none5 .ensures, c .before .is-none4 .ensures, c .before .before .is-none3 .ensures, u .is2 .ensures, u .before .is-none2 .ensures, u .before .before .is .ensures, u .before .before .before .is-none .ensures)
+    rw (
+      c .is-none5 .ensures,
+      c .before .is-none4 .ensures,
+      c .before .before .is-none3 .ensures,
+      u .is2 .ensures,
+      u .before .is-none2 .ensures,
+      u .before .before .is .ensures,
+      u .before .before .before .is-none .ensures,
+    )
 
 pub permdelta-times-spec : {M : Type 1} → statement M
 permdelta-times-spec =
