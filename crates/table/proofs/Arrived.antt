@@ -74,18 +74,19 @@ module _ (t s : List ℕ) where
   arrival-tests sides =
       ⊎-elim (λ e. ap (λ (u : List ℕ). tableTests (strideOf u) sides u) e) (λ f. filed-tests t s f sides) (left-or-filed t s)
 
-  -- the records
-  made-put : (made t s ≡ recordsOf size t) ⊎ (made t s ≡ put keyOf keyLess sameKey (recordOf s) (recordsOf size t))
+  -- the records as they were, or with the slice's record put among them
+  abbrev pub LeftOrPut : List (List ℕ) → Type 0
+  LeftOrPut rs = (rs ≡ recordsOf size t) ⊎ (rs ≡ put keyOf keyLess sameKey (recordOf s) (recordsOf size t))
+
+  made-put : LeftOrPut (made t s)
   made-put = go (stored keyOf keyLess sameKey (keyOf (recordOf s)) (recordsOf size t))
     where
-      go : (o : Option (List ℕ))
-          → (against keyOf keyLess sameKey correctionNumber (roomOf size t) (recordOf s) (recordsOf size t) o ≡ recordsOf size t)
-          ⊎ (against keyOf keyLess sameKey correctionNumber (roomOf size t) (recordOf s) (recordsOf size t) o ≡ put keyOf keyLess sameKey (recordOf s) (recordsOf size t))
-      go none =
-          pick-ind (λ l. (l ≡ recordsOf size t) ⊎ (l ≡ put keyOf keyLess sameKey (recordOf s) (recordsOf size t))) (eqb (length (recordsOf size t)) (roomOf size t)) (λ _. inl refl) (λ _. inr refl)
-      go (some x) =
-          pick-ind (λ l. (l ≡ recordsOf size t) ⊎ (l ≡ put keyOf keyLess sameKey (recordOf s) (recordsOf size t))) (ltb (correctionNumber x) (correctionNumber (recordOf s))) (λ _. inr refl) (λ _. inl refl)
+      go : (o : Option (List ℕ)) → LeftOrPut (against keyOf keyLess sameKey correctionNumber (roomOf size t) (recordOf s) (recordsOf size t) o)
+      go none = pick-ind LeftOrPut (eqb (length (recordsOf size t)) (roomOf size t)) (λ _. inl refl) (λ _. inr refl)
+      go (some x) = pick-ind LeftOrPut (ltb (correctionNumber x) (correctionNumber (recordOf s))) (λ _. inr refl) (λ _. inl refl)
 
-  pub arrival-records : (recordsOf size (arrivedAt t s) ≡ recordsOf size t) ⊎ (recordsOf size (arrivedAt t s) ≡ put keyOf keyLess sameKey (recordOf s) (recordsOf size t))
+  pub arrival-records : LeftOrPut (recordsOf size (arrivedAt t s))
   arrival-records =
-      ⊎-elim (λ e. inl (ap (recordsOf size) e)) (λ f. ⊎-elim (λ p. inl (filed-records t s f ∙ p)) (λ p. inr (filed-records t s f ∙ p)) made-put) (left-or-filed t s)
+      ⊎-elim (λ e. inl (ap (recordsOf size) e))
+      (λ f. let e = filed-records t s f in ⊎-elim (λ p. inl (e ∙ p)) (λ p. inr (e ∙ p)) made-put)
+      (left-or-filed t s)

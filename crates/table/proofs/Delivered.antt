@@ -2,7 +2,7 @@
 use Prim.Native.Nat.{ℕ, _+_, _≤_}
 use mathlib.Core.Path.{_≡_, refl, sym, ap, _∙_}
 use mathlib.Core.List.{List, [], _∷_, _++_, append-assoc}
-use mathlib.Core.Bool.{true, cond}
+use mathlib.Core.Bool.{true}
 use mathlib.Core.Logic.{inl, inr}
 use native.Mathlib.Nat.{mul-le-mul-right}
 use native.Mathlib.Omega.{arith}
@@ -26,7 +26,7 @@ use Rattle.slice.proofs.Sound.{sound-slice}
 use Rattle.table.specs.Header.{lettered, sideOf, countOf, featureOf, strideOf, headerOf, roomOf, recordsOf, written}
 use Rattle.table.specs.Rules.{fails, inOrder, checkTable}
 use Rattle.table.specs.Arriving.{recordOf, filingOf, changed, filed, arrivedAt, creationOf, created}
-use Rattle.table.specs.Deliveries.{deliveredTo, passes, sentTo, correctionNumber, holding}
+use Rattle.table.specs.Deliveries.{deliveredTo, sentTo, correctionNumber, holding}
 use Rattle.table.specs.declared.check.Sides.the-variants.{Both}
 use Rattle.table.specs.declared.create.Creation.the-variants.{Made}
 use Rattle.table.proofs.Made.{made-facts}
@@ -50,10 +50,6 @@ module _ (t : List ℕ) (h : SoundTable (strideOf t) Both t) where
     pub good : (r : List ℕ) → In r rs → Good stride (sideOf t) r
     pub up : Up rs
     pub fits : length rs ≤ room
-
-  -- the records after one slice
-  next : List (List ℕ) → List ℕ → List (List ℕ)
-  next rs s = cond (passes stride (featureOf t) (sideOf t) s) (arrived keyOf keyLess sameKey correctionNumber room (recordOf s) rs) rs
 
   module _ (rs : List (List ℕ)) (f : Fitting rs) where
     inside : 32 + length (joined rs) ≤ length t
@@ -93,7 +89,12 @@ module _ (t : List ℕ) (h : SoundTable (strideOf t) Both t) where
 
           longer : length (joined rs) ≤ length (joined us)
           longer =
-              omega (arith, joined-length size rs (good-sized stride (sideOf t) rs (f .good)), joined-length size us (good-sized stride (sideOf t) us (keeps .all)), mul-le-mul-right size (keeps .grows))
+              omega (
+                arith,
+                joined-length size rs (good-sized stride (sideOf t) rs (f .good)),
+                joined-length size us (good-sized stride (sideOf t) us (keeps .all)),
+                mul-le-mul-right size (keeps .grows),
+              )
 
           go : Changes room (recordOf s) rs (written t rs) → arrivedAt (written t rs) s ≡ written t us
           go (inl p) = here ∙ p .0 ∙ ap (written t) (sym (p .1))
@@ -151,7 +152,8 @@ module _ (b : List ℕ) (side : ℕ) (feature : List ℕ) (l : length feature �
   unfolding written
   new-written rs =
       let p : take 24 (drop 8 new) ≡ tail = take-at tail rest 24 tail-length in
-      let q : drop (32 + length (joined rs)) new ≡ drop (32 + length (joined rs)) b = drop-past (headerOf side feature 0) rest 32 (length (joined rs)) head-length ∙ drop-drop (length (joined rs)) 32 b in
+      let q : drop (32 + length (joined rs)) new ≡ drop (32 + length (joined rs)) b =
+      drop-past (headerOf side feature 0) rest 32 (length (joined rs)) head-length ∙ drop-drop (length (joined rs)) 32 b in
       (λ i. (take 6 new ++ (bytesOf 2 (length rs) ++ p i)) ++ (joined rs ++ q i))
 
   pub new-empty : written new [] ≡ new
@@ -169,7 +171,9 @@ module _ (b : List ℕ) (side : ℕ) (feature : List ℕ) (l : length feature �
   new-sound =
       let long : 32 ≤ length new = omega (arith, new-length, made-facts b side made .0) in
       let reserved : filled 0 8 new 24 ≡ true =
-      sym (filled-drop 0 8 new 24 0 (omega arith)) ∙ ap (λ (x : List ℕ). filled 0 8 x 0) (ap (drop 16) (append-assoc feature (replicate 8 0) rest) ∙ drop-at feature (replicate 8 0 ++ rest) 16 l) ∙ eight-zeros rest in
+      sym (filled-drop 0 8 new 24 0 (omega arith))
+      ∙ ap (λ (x : List ℕ). filled 0 8 x 0) (ap (drop 16) (append-assoc feature (replicate 8 0) rest) ∙ drop-at feature (replicate 8 0 ++ rest) 16 l)
+      ∙ eight-zeros rest in
       record {
         headed = long;
         letters = refl;

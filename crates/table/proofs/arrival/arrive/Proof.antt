@@ -62,23 +62,11 @@ returns c =
     let k = r .before .before in
     (sym (table-refuses _ _ (r .refusal .given .0 .0) (sym (k .check-table .ensures) ∙ r .refusal .given .1)), refl)
 
-part-check-slice-end : tie.Need-part-check-slice-end
-part-check-slice-end c =
-    omega (arith, facts (c .before .before .before .before .before) .headed)
-
 returns-2 : tie.Need-returns-2
 returns-2 c =
     let r = c .before in
     let k = r .before .before in
     (sym (slice-refuses _ _ (sound (told k)) (r .refusal2 .given .0 .0) (sym (checked k) ∙ r .refusal2 .given .1)), refl)
-
-sub-file : tie.Need-sub-file
-sub-file c =
-    omega (arith, sound2 (c .before) .size)
-
-part-file-start : tie.Need-part-file-start
-part-file-start c =
-    omega (arith, sound2 (c .before) .size)
 
 file-requires : tie.Need-file-requires
 file-requires c κs =
@@ -95,7 +83,9 @@ returns-3 c =
     let k = told (e .before .before) in
     let size = sized (e .before .before) in
     let whole = rest-whole 16 (S k) in (
-      x .file .ensures .0 ∙ (λ i. filingOf (roomOf (size i) (T k)) (whole i) (recordsOf (size i) (T k))) ∙ sym (slice-passes _ _ (sound k) (sym (checked (e .before .before)) ∙ e .enum-told2 .given .1)),
+      x .file .ensures .0
+          ∙ (λ i. filingOf (roomOf (size i) (T k)) (whole i) (recordsOf (size i) (T k)))
+          ∙ sym (slice-passes _ _ (sound k) (sym (checked (e .before .before)) ∙ e .enum-told2 .given .1)),
       x .file .ensures .1 ∙ (λ i. after (x .file .result) (size i) (T k) (whole i)),
     )
 
@@ -112,7 +102,7 @@ arrive-spec =
     (λ c κs. search needs)
     (λ c. search needs)
     (λ c. search needs)
-    part-check-slice-end
+    (λ c. omega (arith, facts (c .before .before .before .before .before) .headed))
     (λ c κs. search needs)
     (λ c. search needs)
     (λ c. search needs)
@@ -120,8 +110,8 @@ arrive-spec =
     (λ c. search needs)
     (λ c. search needs)
     (λ c. search needs)
-    sub-file
-    part-file-start
+    (λ c. omega (arith, sound2 (c .before) .size))
+    (λ c. omega (arith, sound2 (c .before) .size))
     (λ c. search needs)
     file-requires
     (λ c. search needs)

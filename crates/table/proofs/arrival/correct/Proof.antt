@@ -29,12 +29,14 @@ stored c =
     let s = start c in
     c .before .correction-of .ensures ∙ ap correctionOf (c .before .before .record-at .ensures .0 ∙ record-is _ _ _ (s .pre .0) (s .pre .1))
 
-lower : (c : tie.After-precedes) (b : Bool) → c .precedes .result ≡ b → let s = start (c .before) in lowerCorrection (correctionOf (held s)) (correctionOf (s .args .«record» .now)) ≡ b
+lower : (c : tie.After-precedes) (b : Bool) → c .precedes .result ≡ b
+    → let s = start (c .before) in lowerCorrection (correctionOf (held s)) (correctionOf (s .args .«record» .now)) ≡ b
 lower c b e =
     let k = c .before in
     sym (c .precedes .ensures ∙ (λ i. lowerCorrection (stored k i) (k .correction-of2 .ensures i))) ∙ e
 
-lower2 : (c : tie.After-precedes2) (b : Bool) → c .precedes2 .result ≡ b → let s = start (c .before .before .before) in lowerCorrection (correctionOf (s .args .«record» .now)) (correctionOf (held s)) ≡ b
+lower2 : (c : tie.After-precedes2) (b : Bool) → c .precedes2 .result ≡ b
+    → let s = start (c .before .before .before) in lowerCorrection (correctionOf (s .args .«record» .now)) (correctionOf (held s)) ≡ b
 lower2 c b e =
     let k = c .before .before .before in
     sym (c .precedes2 .ensures ∙ (λ i. lowerCorrection (k .correction-of2 .ensures i) (stored k i))) ∙ e
@@ -49,18 +51,15 @@ alike c b e =
 fits : (c : tie.Then1) → let a = start (c .before .before) .args in 32 + a .at * a .size + a .size ≤ length (a .table .now)
 fits c = let s = start (c .before .before) in record-fits (s .args .size) (s .args .table .now) (s .args .at) (omega arith)
 
-mul-from : tie.Need-mul-from
-mul-from c = omega (arith, fits c)
-
-add-from : tie.Need-add-from
-add-from c = omega (arith, fits c)
-
 returns : tie.Need-returns
 returns c =
     let p = c .before .before in
     let t = p .before .before in
     let s = start (t .before .before) in
-    (sym (is-replaced _ _ (lower (t .before) _ (t .if1 .taken))), p .put .ensures ∙ put-over _ _ _ _ _ (s .pre .2) refl (s .pre .0) (s .pre .1) (λ i. t .before .before .before .before .before .before .before .slice-known .given i .fits))
+    let known = t .before .before .before .before .before .before .before .slice-known in (
+      sym (is-replaced _ _ (lower (t .before) _ (t .if1 .taken))),
+      p .put .ensures ∙ put-over _ _ _ _ _ (s .pre .2) refl (s .pre .0) (s .pre .1) (λ i. known .given i .fits),
+    )
 
 returns-2 : tie.Need-returns-2
 returns-2 c =
@@ -87,8 +86,8 @@ correct-spec =
     (λ c κs. search needs)
     (λ c κs. search needs)
     (λ c κs. search needs)
-    mul-from
-    add-from
+    (λ c. omega (arith, fits c))
+    (λ c. omega (arith, fits c))
     (λ c κs. search needs)
     (λ c. search needs)
     returns

@@ -25,24 +25,6 @@ ends s = record {
   few = omega (arith, room-most (s .args .size) (s .args .table .now));
 }
 
-mul-from : tie.Need-mul-from
-mul-from c = omega (arith, ends (c .before .before))
-
-add-from : tie.Need-add-from
-add-from c = omega (arith, ends (c .before .before))
-
-mul-to : tie.Need-mul-to
-mul-to c = omega (arith, ends (c .before .before))
-
-add-to : tie.Need-add-to
-add-to c = omega (arith, ends (c .before .before))
-
-add-put16 : tie.Need-add-put16
-add-put16 c = omega (arith, ends (c .before .before .before))
-
-cast-put16 : tie.Need-cast-put16
-cast-put16 c = omega (arith, ends (c .before .before .before))
-
 returns : tie.Need-returns
 returns c =
     let p = c .before .before in
@@ -51,19 +33,20 @@ returns c =
     let s = q .before .before .before .before in
     let a = s .args in
     p .put .ensures
-    ∙ ap (λ (l : List ℕ). pasted l (32 + a .at * a .size) (a .«record» .now)) (o .open-gap .ensures ∙ ap (λ (l : List ℕ). opened l (32 + a .at * a .size) (32 + a .count * a .size) (a .size)) (q .put16 .ensures))
+    ∙ ap (λ (l : List ℕ). pasted l (32 + a .at * a .size) (a .«record» .now))
+    (o .open-gap .ensures ∙ ap (λ (l : List ℕ). opened l (32 + a .at * a .size) (32 + a .count * a .size) (a .size)) (q .put16 .ensures))
     ∙ put-in _ _ _ _ _ (s .pre .3) (s .pre .0) (s .pre .1) (s .pre .2)
 
 pub insert-spec : {M : Type 1} → statement M
 insert-spec =
     tie.close
     (tie.spec
-    mul-from
-    add-from
-    mul-to
-    add-to
-    add-put16
-    cast-put16
+    (λ c. omega (arith, ends (c .before .before)))
+    (λ c. omega (arith, ends (c .before .before)))
+    (λ c. omega (arith, ends (c .before .before)))
+    (λ c. omega (arith, ends (c .before .before)))
+    (λ c. omega (arith, ends (c .before .before .before)))
+    (λ c. omega (arith, ends (c .before .before .before)))
     (λ c κs. search needs)
     (λ c κs. search needs)
     (λ c κs. search needs)

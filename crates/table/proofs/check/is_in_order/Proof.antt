@@ -36,7 +36,8 @@ returns c =
 loop-holds : tie.Need-loop-holds Inv-loop μ-loop
 loop-holds c =
     let s = c .before .before .before .before in
-    (omega arith, order-start _ _ (omega arith) (omega arith) ∙ ap (λ (k : Key). risesOn (s .args .size) (s .args .table .now) k 1) (sym (c .key-of .ensures ∙ ap keyOf (c .before .record-at .ensures .0))))
+    let key = c .key-of .ensures ∙ ap keyOf (c .before .record-at .ensures .0) in
+    (omega arith, order-start _ _ (omega arith) (omega arith) ∙ ap (λ (k : Key). risesOn (s .args .size) (s .args .table .now) k 1) (sym key))
 
 returns-2 : tie.Need-returns-2 Inv-loop μ-loop
 returns-2 c =

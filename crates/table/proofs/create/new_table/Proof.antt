@@ -26,7 +26,9 @@ returns-3 c =
     let e = p1 .before .before .before in
     let a = e .before .before .before .before .args in (
       sym (made _ _ (e .before .before .if1 .left) (sym (e .before .takes-side .ensures) ∙ not-false _ (e .if2 .left))),
-      p3 .put3 .ensures ∙ ap (λ (l : List ℕ). pasted l 24 (replicate 8 0)) (p2 .put2 .ensures ∙ ap (λ (l : List ℕ). pasted l 8 (a .feature .now)) (p1 .put .ensures)) ∙ header-written _ _ (e .before .before .if1 .left) _ (search needs),
+      p3 .put3 .ensures
+          ∙ ap (λ (l : List ℕ). pasted l 24 (replicate 8 0)) (p2 .put2 .ensures ∙ ap (λ (l : List ℕ). pasted l 8 (a .feature .now)) (p1 .put .ensures))
+          ∙ header-written _ _ (e .before .before .if1 .left) _ (search needs),
     )
 
 pub new-table-spec : {M : Type 1} → statement M

@@ -20,18 +20,6 @@ inside c = rw (c .before .room-of .ensures) at (c .if1 .taken)
 fits : (c : tie.Then1) → 32 + start c .args .i * start c .args .size + start c .args .size ≤ length (start c .args .table .now)
 fits c = record-fits _ _ _ (inside c)
 
-mul-at : tie.Need-mul-at
-mul-at c = omega (arith, fits c)
-
-add-at : tie.Need-add-at
-add-at c = omega (arith, fits c)
-
-add-end : tie.Need-add-end
-add-end c = omega (arith, fits c)
-
-part-result-end : tie.Need-part-result-end
-part-result-end c = omega (arith, fits c)
-
 returns : tie.Need-returns
 unfolding recordAt placeOf
 returns c =
@@ -49,12 +37,12 @@ record-at-spec =
     tie.close
     (tie.spec
     (λ c κs. search needs)
-    mul-at
-    add-at
-    add-end
+    (λ c. omega (arith, fits c))
+    (λ c. omega (arith, fits c))
+    (λ c. omega (arith, fits c))
     (λ c. search needs)
     (λ c. search needs)
-    part-result-end
+    (λ c. omega (arith, fits c))
     (λ c. search needs)
     (λ c. search needs)
     (λ c. search needs)
