@@ -1,4 +1,5 @@
--- `slice::check::check_counted` meets its contract: past each test, what is left of rules 14 to 16; the rest of a record is its properties, and their mentions are counted. Assumes nothing.
+-- `slice::check::check_counted` meets its contract: past each test, what is left of rules 14 to 16; the rest
+-- of a record is its properties, and their mentions are counted. Assumes nothing.
 use Prim.Native.Nat.{ℕ}
 use mathlib.Core.Path.{_≡_, sym, _∙_}
 use mathlib.Core.Bool.{cond, not}

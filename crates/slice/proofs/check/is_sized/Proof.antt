@@ -1,4 +1,5 @@
--- `slice::check::is_sized` meets its contract: the rest is eight strides where it is a multiple of eight and its eighth is the stride. Assumes nothing.
+-- `slice::check::is_sized` meets its contract: the rest is eight strides where it is a multiple of eight
+-- and its eighth is the stride. Assumes nothing.
 use Prim.Native.Nat.{_+_, _-_, _*_, _/_}
 use mathlib.Core.Path.{sym}
 use native.Mathlib.Omega.{arith}
