@@ -28,12 +28,24 @@ module _ (size : ℕ) (t : List ℕ) where
   abbrev pub risesOn : Key → ℕ → Bool
   risesOn k i = risesFrom keyOf keyLess sameKey k (left i)
 
+  -- at the start and at the end
+  pub failing-start : (stride side : ℕ) → failing stride side (recordsOf size t) ≡ failingFrom stride side 0
+  unfolding failing
+  failing-start stride side = rw (zero-add (first (fails stride side) (recordsOf size t)))
+
+  pub failing-end : (stride side i : ℕ) → countOf t ≤ i → failingFrom stride side i ≡ Nowhere
+  failing-end stride side i h = rw (rest-end size t i h)
+
+  pub order-none : countOf t ≤ 0 → inOrder (recordsOf size t) ≡ true
+  unfolding inOrder
+  order-none h = rw (rest-end size t 0 h)
+
+  pub order-end : (k : Key) (i : ℕ) → countOf t ≤ i → risesOn k i ≡ true
+  order-end k i h = rw (rest-end size t i h)
+
+  -- at record i
   module _ (roomy : countOf t ≤ roomOf size t) where
     module _ (stride side : ℕ) where
-      pub failing-start : failing stride side (recordsOf size t) ≡ failingFrom stride side 0
-      unfolding failing
-      failing-start = rw (zero-add (first (fails stride side) (recordsOf size t)))
-
       pub failing-here : (i : ℕ) → i < countOf t → fails stride side (recordAt size i t) ≡ true → failingFrom stride side i ≡ At i
       failing-here i h e = rw (rest-at size t i h roomy, e, add-zero)
 
@@ -41,13 +53,6 @@ module _ (size : ℕ) (t : List ℕ) where
       failing-on i h e =
           let n : i + suc (first (fails stride side) (left (i + 1))) ≡ i + 1 + first (fails stride side) (left (i + 1)) = omega arith in
           rw (rest-at size t i h roomy, e) (ap (λ (k : ℕ). cond (any (fails stride side) (left (i + 1))) (At k) Nowhere) n)
-
-      pub failing-end : (i : ℕ) → countOf t ≤ i → failingFrom stride side i ≡ Nowhere
-      failing-end i h = rw (rest-end size t i h)
-
-    pub order-none : countOf t ≤ 0 → inOrder (recordsOf size t) ≡ true
-    unfolding inOrder
-    order-none h = rw (rest-end size t 0 h)
 
     pub order-start : 0 < countOf t → inOrder (recordsOf size t) ≡ risesOn (keyOf (recordAt size 0 t)) 1
     unfolding inOrder
@@ -58,9 +63,6 @@ module _ (size : ℕ) (t : List ℕ) where
 
     pub order-on : (k : Key) (i : ℕ) → i < countOf t → keyLess k (keyOf (recordAt size i t)) ≡ true → risesOn k i ≡ risesOn (keyOf (recordAt size i t)) (i + 1)
     order-on k i h e = rw (rest-at size t i h roomy, e)
-
-    pub order-end : (k : Key) (i : ℕ) → countOf t ≤ i → risesOn k i ≡ true
-    order-end k i h = rw (rest-end size t i h)
 
 -- ---- what the search for a failing record tells
 found : (b : Bool) (i j : ℕ) → cond b (At i) Nowhere ≡ At j → b ≡ true

@@ -1,4 +1,5 @@
--- `table::arrival::insert` meets its contract: the count, the gap and the record in it are the table with the record put in. Assumes nothing.
+-- `table::arrival::insert` meets its contract: the count, the gap and the record in it are the table with
+-- the record put in. Assumes nothing.
 use Prim.Native.Nat.{ℕ, _+_, _*_, _≤_, _<_}
 use mathlib.Core.Path.{_∙_, ap}
 use mathlib.Core.List.{List}

@@ -1,4 +1,5 @@
--- `table::check::first_failing` meets its contract. The loop's invariant: what the search finds in all the records is what it finds from record i on. Assumes nothing.
+-- `table::check::first_failing` meets its contract. The loop's invariant: what the search finds in all the records is what
+-- it finds from record i on. Assumes nothing.
 use Prim.Native.Nat.{_-_, _≤_}
 use mathlib.Core.Path.{_≡_, sym, _∙_, ap}
 use native.Mathlib.Omega.{arith}
@@ -29,7 +30,7 @@ unfolding fails
 told c r e = ap isRefused (rw (c .before .record-at .ensures .0) at (sym (c .check-record .ensures)) ∙ e)
 
 loop-holds : tie.Need-loop-holds Inv-loop μ-loop
-loop-holds c = (omega arith, failing-start _ _ (omega arith) _ _)
+loop-holds c = (omega arith, failing-start _ _ _ _)
 
 returns : tie.Need-returns Inv-loop μ-loop
 returns c =
@@ -46,7 +47,7 @@ loop-again c =
 returns-2 : tie.Need-returns-2 Inv-loop μ-loop
 returns-2 c =
     let l = c .before in
-    sym (l .loop .inv .1 ∙ failing-end _ _ (roomy l) _ _ (l .loop .i) (omega arith))
+    sym (l .loop .inv .1 ∙ failing-end _ _ _ _ (l .loop .i) (omega arith))
 
 pub first-failing-spec : {M : Type 1} → statement M
 first-failing-spec =

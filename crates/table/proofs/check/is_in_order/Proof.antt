@@ -1,4 +1,5 @@
--- `table::check::is_in_order` meets its contract. The loop's invariant: all the records rise where those from record i on rise from the last key read. Assumes nothing.
+-- `table::check::is_in_order` meets its contract. The loop's invariant: all the records rise where those from record i on
+-- rise from the last key read. Assumes nothing.
 use Prim.Native.Nat.{_+_, _-_, _≤_}
 use mathlib.Core.Path.{_≡_, sym, _∙_, ap}
 use native.Mathlib.Omega.{arith}
@@ -31,7 +32,7 @@ read c = c .key-of2 .ensures ∙ ap keyOf (c .before .record-at2 .ensures .0)
 
 returns : tie.Need-returns Inv-loop μ-loop
 returns c =
-    sym (order-none _ _ (omega arith) (omega arith))
+    sym (order-none _ _ (omega arith))
 
 loop-holds : tie.Need-loop-holds Inv-loop μ-loop
 loop-holds c =
@@ -57,7 +58,7 @@ loop-again c =
 returns-3 : tie.Need-returns-3 Inv-loop μ-loop
 returns-3 c =
     let l = c .before in
-    sym (l .loop .inv .1 ∙ order-end _ _ (roomy l) _ (l .loop .i) (omega arith))
+    sym (l .loop .inv .1 ∙ order-end _ _ _ (l .loop .i) (omega arith))
 
 pub is-in-order-spec : {M : Type 1} → statement M
 is-in-order-spec =
