@@ -3,9 +3,8 @@
 use Prim.Native.Nat.{ℕ}
 use mathlib.Core.Path.{_≡_, refl}
 use mathlib.Core.List.{List, [], _∷_}
-use mathlib.Core.Bool.{Bool, true, false, cond, _&&_}
+use mathlib.Core.Bool.{Bool, true, false, cond, true≢false, _&&_}
 use mathlib.Core.Logic.{_⊎_, inl, inr, ⊎-elim}
-use native.Mathlib.Omega.{arith}
 use Rattle.laws.specs.Lists.{kept}
 use Rattle.laws.specs.Keyed.{In}
 use Rattle.laws.proofs.Tests.{and-both}
@@ -59,7 +58,7 @@ module _ (t : Instant) (slices : List Slice) where
 
 -- ---- the state is what they give
 pub known-apart : (n : ℕ) (s : State) → refuses n ≡ known s → ⊥
-known-apart n s e = let z : _≡_ {A = ℕ} 0 1 = cc in omega arith
+known-apart n s e = true≢false cc
 
 pub known-same : (b : Bool) (s s' : State) → cond b (refuses 22) (known s') ≡ known s → s ≡ s'
 known-same true s s' e = cc

@@ -56,41 +56,22 @@ base-begins slices t b a e =
     omega (tests, ap (λ i. i .0) e))))
 
 -- ---- a BASELINE that holds at two instants
-abbrev sliceIn : Slice → Anchor → Slice
-sliceIn d (based b) = b
-sliceIn d (opened o) = d
-sliceIn d nowhere = d
-sliceIn d two = d
-
 -- one BASELINE as anchor is one slice
 based-same : (x y : Slice) → based x ≡ based y → x ≡ y
-based-same x y e = ap (sliceIn x) e
+based-same x y e = cc
 
-abbrev isBased : Anchor → Bool
-isBased (based b) = true
-isBased (opened o) = false
-isBased nowhere = false
-isBased two = false
-
-abbrev isTwo : Anchor → Bool
-isTwo (based b) = false
-isTwo (opened o) = false
-isTwo nowhere = false
-isTwo two = true
-
--- two anchors are no BASELINE
+-- and neither two anchors nor an opening one is a BASELINE
 two-apart : (b : Slice) → two ≡ based b → ⊥
-two-apart b e = true≢false (ap isTwo e)
+two-apart b e = true≢false cc
 
 -- the one of some, where they are not two
 only-one : (otherwise : Anchor) (l : List Slice) (b : Slice) → In b l → (only based otherwise l ≡ two → ⊥) → only based otherwise l ≡ based b
 only-one otherwise (x ∷ []) b (inl e) n = ap based (sym e)
 only-one otherwise (x ∷ y ∷ l) b m n = absurd (n refl)
 
--- an opening anchor is no BASELINE
 opened-apart : (l : List Slice) (x : Slice) → only opened nowhere l ≡ based x → ⊥
-opened-apart [] x e = true≢false (sym (ap isBased e))
-opened-apart (y ∷ []) x e = true≢false (sym (ap isBased e))
+opened-apart [] x e = true≢false cc
+opened-apart (y ∷ []) x e = true≢false cc
 opened-apart (y ∷ z ∷ l) x e = two-apart x e
 
 -- the anchor is one that holds

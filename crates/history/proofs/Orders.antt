@@ -4,7 +4,7 @@ use Prim.Native.Nat.{ℕ}
 use mathlib.Core.Path.{_≡_, sym, ap, _∙_}
 use mathlib.Core.List.{List}
 use mathlib.Core.Bool.{true, not}
-use lib.Dec.{eqb}
+use lib.Dec.{ltb, eqb}
 use borrow.Author.Tests.{eqb-true, eq-eqb}
 use Rattle.laws.specs.Keyed.{In, Rising}
 use Rattle.laws.proofs.Tests.{tests, and-both}
@@ -34,31 +34,29 @@ turn-order = record {
   tells = λ a b e. rw (eq-eqb (a .instant .0) (b .instant .0) (ap (λ k. k .instant .0) e), eq-eqb (a .sequence .0) (b .sequence .0) (ap (λ k. k .sequence .0) e));
 }
 
+-- an order by a number that tells things apart
+by-number : {K : Type 0} (number : K → ℕ) → ((a b : K) → number a ≡ number b → a ≡ b) → KeyOrder (λ a b. ltb (number a) (number b)) (λ a b. eqb (number a) (number b))
+by-number number one = record {
+  irrefl = λ a h. omega tests;
+  trans = λ a b c p q. omega tests;
+  total = λ a b p q. one a b (omega tests);
+  told = λ a b h. one a b (omega tests);
+  tells = λ a b e. eq-eqb (number a) (number b) (ap number e);
+}
+
 sequence-of : (a b : SequenceNumber) → a .0 ≡ b .0 → a ≡ b
 sequence-of a b p i = record { 0 = p i }
 
 pub sequence-order : KeyOrder lowerSequence sameSequence
 unfolding lowerSequence sameSequence
-sequence-order = record {
-  irrefl = λ a h. omega tests;
-  trans = λ a b c p q. omega tests;
-  total = λ a b p q. sequence-of a b (omega tests);
-  told = λ a b h. sequence-of a b (omega tests);
-  tells = λ a b e. eq-eqb (a .0) (b .0) (ap (λ k. k .0) e);
-}
+sequence-order = by-number (λ a. a .0) sequence-of
 
 pub instant-of : (a b : Instant) → a .0 ≡ b .0 → a ≡ b
 instant-of a b p i = record { 0 = p i }
 
 pub instant-order : KeyOrder before sameInstant
 unfolding before sameInstant
-instant-order = record {
-  irrefl = λ a h. omega tests;
-  trans = λ a b c p q. omega tests;
-  total = λ a b p q. instant-of a b (omega tests);
-  told = λ a b h. instant-of a b (omega tests);
-  tells = λ a b e. eq-eqb (a .0) (b .0) (ap (λ k. k .0) e);
-}
+instant-order = by-number (λ a. a .0) instant-of
 
 pub counts-kind : (kind : ℕ) (s : Slice) → counts kind s ≡ true → s .kind ≡ kind
 unfolding counts

@@ -2,7 +2,7 @@
 use Prim.Native.Nat.{ℕ, zero, suc, _<_}
 use mathlib.Core.Path.{_≡_, refl, sym, ap, _∙_, fun-ext}
 use mathlib.Core.List.{List, [], _∷_}
-use mathlib.Core.Bool.{Bool, true, false, cond, not}
+use mathlib.Core.Bool.{Bool, true, cond}
 use mathlib.Core.Logic.{_⊎_, inl, inr, ⊎-elim}
 use mathlib.Core.Option.{Option, none, some, Option·none-ne-some, Option·some-injective}
 use native.Mathlib.Omega.{arith}
@@ -13,9 +13,10 @@ use Rattle.laws.specs.Keyed.{In}
 use Rattle.laws.proofs.Tests.{pick-ind, by-test}
 use Rattle.laws.proofs.Lists.{kept-in}
 use Rattle.laws.proofs.Fresh.{sorted-within}
-use Rattle.numbers.specs.Numbers.{none as noTime, isNone, lowerSequence, sameSequence}
+use Rattle.numbers.specs.Numbers.{none as noTime, isNone, given, lowerSequence, sameSequence}
 use Rattle.numbers.specs.declared.Instant.{Instant}
 use Rattle.numbers.proofs.Facts.{none-true}
+use Rattle.slice.specs.declared.record.Life.{Life}
 use Rattle.slice.specs.Record.{Property, unmentioned, says, isMentioned, Slice}
 use Rattle.history.specs.Anchor.{Anchor}
 use Rattle.history.specs.State.{State, started, newer, over, newTime, applied, appliedAll}
@@ -112,45 +113,40 @@ line-property p a ds =
     (sym (newer-unmentioned (getD (a .properties) p unmentioned)) ∙ property-step p a none unmentioned refl)
 
 -- ---- a life time
-abbrev pub beginIn : Option Slice → Instant
-beginIn none = noTime
-beginIn (some d) = d .life .begin
-
-abbrev pub endIn : Option Slice → Instant
-endIn none = noTime
-endIn (some d) = d .life .end
-
-time-step : (said : Option Slice → Instant) (b : Bool) (d : Slice) (o : Option Slice) (old : Instant) → old ≡ said o
-    → cond b old (said (some d)) ≡ said (cond (not b) (some d) o)
-time-step said true d o old h = h
-time-step said false d o old h = refl
-
-time-first : (new : Instant) → new ≡ cond (isNone new) noTime new
+time-first : (new : Instant) → new ≡ newTime new noTime
+unfolding newTime
 time-first new = pick-ind (λ v. new ≡ v) (isNone new) (λ e i. record { 0 = none-true new e i }) (λ _. refl)
 
-pub applied-begin : (ds : List Slice) (s : State) (o : Option Slice) → s .life .begin ≡ beginIn o
-    → appliedAll s ds .life .begin ≡ beginIn (lastOf (tells 8) o ds)
-unfolding applied newTime tells
-applied-begin =
-    part-last (λ s. s .life .begin) beginIn (tells 8) (λ s d o h. time-step beginIn (isNone (d .life .begin)) d o (s .life .begin) h)
+-- the begin or the end, which one that is given replaces
+module _ (time : Life → Instant) where
+  abbrev pub timeIn : Option Slice → Instant
+  timeIn none = noTime
+  timeIn (some d) = time (d .life)
 
-pub applied-end : (ds : List Slice) (s : State) (o : Option Slice) → s .life .end ≡ endIn o
-    → appliedAll s ds .life .end ≡ endIn (lastOf (tells 9) o ds)
-unfolding applied newTime tells
-applied-end = part-last (λ s. s .life .end) endIn (tells 9) (λ s d o h. time-step endIn (isNone (d .life .end)) d o (s .life .end) h)
+  time-step : (d : Slice) (o : Option Slice) (old : Instant) → old ≡ timeIn o → newTime (time (d .life)) old ≡ timeIn (cond (given (time (d .life))) (some d) o)
+  unfolding newTime
+  time-step d o old h = by-test (isNone (time (d .life))) (λ y. rw y h) (λ n. rw n)
+
+  line-time : ((s : State) (d : Slice) → time (applied s d .life) ≡ newTime (time (d .life)) (time (s .life)))
+      → (a : Slice) (ds : List Slice) → time (appliedAll (started a) ds .life) ≡ timeIn (lastOf (λ d. given (time (d .life))) none (a ∷ ds))
+  line-time replaced a ds =
+      part-last (λ s. time (s .life)) timeIn (λ d. given (time (d .life))) (λ s d o h. replaced s d ∙ time-step d o (time (s .life)) h)
+      ds (started a) (cond (given (time (a .life))) (some a) none) (time-first (time (a .life)) ∙ time-step a none noTime refl)
+
+abbrev pub beginIn : Option Slice → Instant
+beginIn = timeIn (λ l. l .begin)
+
+abbrev pub endIn : Option Slice → Instant
+endIn = timeIn (λ l. l .end)
 
 module _ (a : Slice) (ds : List Slice) where
   pub line-begin : appliedAll (started a) ds .life .begin ≡ beginIn (lastOf (tells 8) none (a ∷ ds))
-  unfolding tells
-  line-begin =
-      applied-begin ds (started a) (cond (tells 8 a) (some a) none)
-      (time-first (a .life .begin) ∙ time-step beginIn (isNone (a .life .begin)) a none noTime refl)
+  unfolding applied tells
+  line-begin = line-time (λ l. l .begin) (λ s d. refl) a ds
 
   pub line-end : appliedAll (started a) ds .life .end ≡ endIn (lastOf (tells 9) none (a ∷ ds))
-  unfolding tells
-  line-end =
-      applied-end ds (started a) (cond (tells 9 a) (some a) none)
-      (time-first (a .life .end) ∙ time-step endIn (isNone (a .life .end)) a none noTime refl)
+  unfolding applied tells
+  line-end = line-time (λ l. l .end) (λ s d. refl) a ds
 
 -- ---- how many properties
 over-length : (news olds : List Property) → length news ≡ length olds → length (over news olds) ≡ length olds

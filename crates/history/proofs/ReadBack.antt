@@ -135,8 +135,8 @@ module _ (unknown : List ℕ) where
 
   -- those that hold at t give the states of the stretches that t lies in, as they are written
   numbered-kept : (t : Instant) (n : ℕ) (l : List Stretch)
-      → map started (kept (λ b. counts baseline b && holds t (b .period .begin) (b .period .end)) (numberedFrom unknown n l))
-      ≡ map (λ s. asWritten unknown (s .state)) (kept (λ s. holds t (s .period .begin) (s .period .end)) l)
+      → map started (kept (holding t) (numberedFrom unknown n l))
+      ≡ map (λ s. asWritten unknown (s .state)) (kept (current t) l)
   unfolding counts baselineOf asWritten
   numbered-kept t n [] = refl
   numbered-kept t n (s ∷ l) =

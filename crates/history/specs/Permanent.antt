@@ -1,7 +1,7 @@
 -- The permanent state at an instant. Assumes nothing.
 use Prim.Native.Nat.{ℕ}
 use mathlib.Core.Bool.{Bool, false, cond, _&&_}
-use mathlib.Core.List.{List, _∷_}
+use mathlib.Core.List.{List}
 use Rattle.laws.specs.Lists.{kept}
 use Rattle.laws.specs.Orders.{lexLess}
 use Rattle.laws.specs.Keyed.{sorted}
