@@ -2,7 +2,7 @@
 use Prim.Native.Nat.{ℕ, zero, suc, _+_, _*_, _-_, _/_, _%_, _≤_, _<_}
 use mathlib.Core.Path.{_≡_, refl, sym, ap, _∙_}
 use mathlib.Core.List.{List, [], _∷_, _++_, map}
-use mathlib.Core.Bool.{Bool, true, false, cond, not}
+use mathlib.Core.Bool.{true, not}
 use mathlib.Core.Logic.{inl, inr, ⊎-elim}
 use native.Mathlib.Omega.{arith}
 use lib.ListN.{length, take, drop, replicate, length-drop, take-append-drop}
@@ -20,7 +20,7 @@ use Rattle.octets.proofs.Runs.{Bytes, each-at}
 use Rattle.octets.proofs.Readers.{be-whole}
 use Rattle.numbers.specs.Numbers.{noInstant}
 use Rattle.property.specs.Eight.{propertiesOf, mentioned}
-use Rattle.slice.specs.Record.{baseline, recordSize, partsOf, Property, unmentioned, says, isMentioned, propertyOf, viewOf}
+use Rattle.slice.specs.Record.{baseline, recordSize, partsOf, Property, isMentioned, propertyOf, viewOf}
 use Rattle.slice.specs.Rules.{contentOf, contentRight}
 use Rattle.slice.specs.declared.check.Checked.the-variants.{Sound}
 use Rattle.slice.proofs.Times.{instant-most}
@@ -34,6 +34,7 @@ use Rattle.history.specs.Counted.{counts}
 use Rattle.history.specs.State.{started}
 use Rattle.state.specs.Written.{propertyBytes}
 use Rattle.state.proofs.Slices.{view-eight}
+use Rattle.state.proofs.Written.{mention-bytes}
 use Rattle.baselines.specs.Carried.{Carries}
 use Rattle.baselines.proofs.Changes.{bytes-records, bytes-drop}
 
@@ -77,13 +78,9 @@ cut n at r x e = sym (take-append-drop n (drop at r)) ∙ (λ i. e i ++ drop-dro
 
 -- ---- properties that are all mentioned are written as they stand
 module _ (stride : ℕ) where
-  mention-written : (x : List ℕ) (c : Bool) → isMentioned (cond c (says x) unmentioned) ≡ true → propertyBytes stride (cond c (says x) unmentioned) ≡ x
-  mention-written x true e = refl
-  mention-written x false e = contrary e refl
-
   all-written : (xs : List (List ℕ)) → ((x : List ℕ) → In x xs → isMentioned (propertyOf x) ≡ true) → map (propertyBytes stride) (map propertyOf xs) ≡ xs
   all-written [] h = refl
-  all-written (x ∷ xs) h = λ i. mention-written x (mentioned x) (h x (inl refl)) i ∷ all-written xs (λ y m. h y (inr m)) i
+  all-written (x ∷ xs) h = λ i. mention-bytes stride (mentioned x) x (h x (inl refl)) i ∷ all-written xs (λ y m. h y (inr m)) i
 
   module _ (r : List ℕ) (bytes : Bytes r) (size : length r ≡ recordSize stride) (clear : filled 0 8 r 24 ≡ true) (every : all isMentioned (viewOf stride r .properties) ≡ true) where
     parts-mentioned : (x : List ℕ) → In x (partsOf stride r) → isMentioned (propertyOf x) ≡ true
@@ -113,7 +110,7 @@ module _ (stride : ℕ) where
       eight = view-eight stride r;
       sized = λ v m. let (x, n, e) = map-in propertyOf (partsOf stride r) v m in
           ap (λ (w : Property). length (propertyBytes stride w)) e
-          ∙ ap length (mention-written x (mentioned x) (parts-mentioned x n))
+          ∙ ap length (mention-bytes stride (mentioned x) x (parts-mentioned x n))
           ∙ pieces-sized stride 8 (drop 32 r) (simp length-drop (omega arith)) x n;
       born = omega (arith, instant-most r 16 bytes);
       gone = omega (arith, instant-most r 20 bytes);

@@ -1,11 +1,11 @@
 -- The record at hand: what it says of a state, and what writing into it makes of that. Assumes nothing.
 use Prim.Native.Nat.{ℕ, zero, suc, _+_, _*_, _≤_, _<_}
-use mathlib.Core.Path.{_≡_, refl, sym, ap, _∙_}
-use mathlib.Core.List.{List, [], _∷_, _++_, map, append-assoc, append-nil}
+use mathlib.Core.Path.{_≡_, refl, sym, ap, _∙_, subst}
+use mathlib.Core.List.{List, [], _∷_, _++_, map, append-assoc}
 use mathlib.Core.Bool.{Bool, true, false, cond, not}
-use mathlib.Core.Logic.{_⊎_, inl, inr, ⊎-elim}
+use mathlib.Core.Logic.{inl, inr, ⊎-elim}
 use native.Mathlib.Omega.{arith}
-use lib.ListN.{length, getD, replicate, length-append, drop-of-length-le}
+use lib.ListN.{length, getD, replicate, length-append}
 use lib.Dec.{eqb, ltb}
 use borrow.Author.Tests.{eq-eqb, ne-eqb}
 use Rattle.laws.specs.Lists.{joined}
@@ -14,14 +14,13 @@ use Rattle.laws.proofs.Tests.{tests}
 use Rattle.laws.proofs.Lists.{getD-past}
 use Rattle.octets.specs.Bytes.{byteOf}
 use Rattle.octets.specs.Writing.{bytesOf, pasted}
-use Rattle.octets.proofs.Writing.{pasted-whole}
 use Rattle.octets.proofs.Readers.{be-whole}
 use Rattle.property.specs.Eight.{mentioned}
 use Rattle.numbers.specs.Numbers.{none, isNone}
 use Rattle.numbers.specs.declared.Instant.{Instant}
 use Rattle.slice.specs.Record.{recordSize, Property, unmentioned, says, lifeOf, Slice, viewOf}
 use Rattle.slice.proofs.View.{property-mentioned}
-use Rattle.history.specs.State.{State, newer, over, newTime, applied}
+use Rattle.history.specs.State.{State, newer, over, newTime}
 use Rattle.history.specs.Derived.{baselineOf}
 use Rattle.history.specs.Source.{mentions}
 use Rattle.history.specs.Parts.{tells}
@@ -33,12 +32,6 @@ use Rattle.baselines.specs.Steps.{drawnRecord}
 use Rattle.baselines.specs.Carried.{tailOf, Carries}
 use Rattle.baselines.proofs.Pasted.{over-middle, filled-by}
 use Rattle.baselines.proofs.Laid.{four-back}
-
--- all of some bytes, written over
-pub pasted-all : (d r : List ℕ) → length d ≡ length r → pasted d 0 r ≡ r
-pasted-all d r e =
-    let past : length d ≤ 0 + length r = omega arith in
-    pasted-whole d r 0 (omega arith) ∙ ap (λ (l : List ℕ). r ++ l) (drop-of-length-le d past) ∙ append-nil r
 
 -- ---- properties, the first n of them replaced where they are mentioned
 abbrev overTo : ℕ → List Property → List Property → List Property
@@ -129,6 +122,23 @@ module _ (stride : ℕ) where
         ∙ over-middle [] (c .front) (tailOf stride s) x (c .long)
         ∙ ap (λ (l : List (List ℕ)). x ++ (bytesOf 4 (s .life .begin .0) ++ (bytesOf 4 (s .life .end .0) ++ (replicate 8 0 ++ joined l)))) (sym (filled-by stride (partFor stride) (λ b. refl) (s .properties)))
 
+    -- with other bytes for some of those behind the front it says the state that these say
+    retold : (s′ : State) (head old rest new d : List ℕ) → tailOf stride s ≡ head ++ (old ++ rest) → tailOf stride s′ ≡ head ++ (new ++ rest) → length old ≡ length new
+        → s′ .properties ≡ s .properties → s′ .life .begin .0 < 4294967296 → s′ .life .end .0 < 4294967296 → d ≡ pasted r (16 + length head) new → Carries stride s′ d
+    retold s′ head old rest new d was is long same born gone e =
+        let f : (l : List ℕ) → (c .front ++ head) ++ l ≡ c .front ++ (head ++ l) = append-assoc (c .front) head in
+        let n : 16 + length head ≡ length (c .front ++ head) = omega (arith, length-append (c .front) head, c .long) in
+        record {
+          front = c .front;
+          long = c .long;
+          is = e ∙ (λ i. pasted ((c .is ∙ ap (λ (l : List ℕ). c .front ++ l) was ∙ sym (f (old ++ rest))) i) (n i) new) ∙ over-middle (c .front ++ head) old rest new long ∙ f (new ++ rest)
+              ∙ ap (λ (l : List ℕ). c .front ++ l) (sym is);
+          eight = ap length same ∙ c .eight;
+          sized = λ v m. c .sized v (subst (In v) same m);
+          born = born;
+          gone = gone;
+        }
+
     -- a life time that is given
     pub carried-born : (x : Instant) → x .0 < 4294967296 → (d : List ℕ) → d ≡ cond (isNone x) r (pasted r 16 (bytesOf 4 (x .0)))
         → Carries stride (record { life = record { begin = newTime x (s .life .begin); end = s .life .end }; properties = s .properties }) d
@@ -137,15 +147,7 @@ module _ (stride : ℕ) where
       where
         go : (b : Bool) → d ≡ cond b r (pasted r 16 (bytesOf 4 (x .0))) → Carries stride (record { life = record { begin = cond b (s .life .begin) x; end = s .life .end }; properties = s .properties }) d
         go true e = rw e c
-        go false e = record {
-          front = c .front;
-          long = c .long;
-          is = e ∙ (λ i. pasted (c .is i) (sym (c .long) i) (bytesOf 4 (x .0))) ∙ over-middle (c .front) (bytesOf 4 (s .life .begin .0)) (bytesOf 4 (s .life .end .0) ++ (replicate 8 0 ++ laid (s .properties))) (bytesOf 4 (x .0)) refl;
-          eight = c .eight;
-          sized = c .sized;
-          born = low;
-          gone = c .gone;
-        }
+        go false e = retold _ [] (bytesOf 4 (s .life .begin .0)) _ (bytesOf 4 (x .0)) d refl refl refl refl low (c .gone) e
 
     pub carried-ended : (x : Instant) → x .0 < 4294967296 → (d : List ℕ) → d ≡ cond (isNone x) r (pasted r 20 (bytesOf 4 (x .0)))
         → Carries stride (record { life = record { begin = s .life .begin; end = newTime x (s .life .end) }; properties = s .properties }) d
@@ -154,20 +156,7 @@ module _ (stride : ℕ) where
       where
         go : (b : Bool) → d ≡ cond b r (pasted r 20 (bytesOf 4 (x .0))) → Carries stride (record { life = record { begin = s .life .begin; end = cond b (s .life .end) x }; properties = s .properties }) d
         go true e = rw e c
-        go false e =
-            let head = c .front ++ bytesOf 4 (s .life .begin .0) in
-            let rest : List ℕ = replicate 8 0 ++ laid (s .properties) in
-            let n : length head ≡ 20 = length-append (c .front) (bytesOf 4 (s .life .begin .0)) ∙ omega (arith, c .long) in
-            let f : (b : List ℕ) → head ++ (b ++ rest) ≡ c .front ++ (bytesOf 4 (s .life .begin .0) ++ (b ++ rest)) = λ b. append-assoc (c .front) (bytesOf 4 (s .life .begin .0)) (b ++ rest) in
-            record {
-              front = c .front;
-              long = c .long;
-              is = e ∙ (λ i. pasted ((c .is ∙ sym (f (bytesOf 4 (s .life .end .0)))) i) (sym n i) (bytesOf 4 (x .0))) ∙ over-middle head (bytesOf 4 (s .life .end .0)) rest (bytesOf 4 (x .0)) refl ∙ f (bytesOf 4 (x .0));
-              eight = c .eight;
-              sized = c .sized;
-              born = c .born;
-              gone = low;
-            }
+        go false e = retold _ (bytesOf 4 (s .life .begin .0)) (bytesOf 4 (s .life .end .0)) _ (bytesOf 4 (x .0)) d refl refl refl refl (c .born) low e
 
   -- ---- the record of a state
   pub carry-state : (t : Instant) (s : State) → length (s .properties) ≡ 8 → Wide (s .properties) → s .life .begin .0 < 4294967296 → s .life .end .0 < 4294967296

@@ -3,7 +3,7 @@
 use Prim.Native.Nat.{ℕ, _+_, _*_, _≤_, _<_}
 use mathlib.Core.Path.{_≡_, refl, sym, ap, _∙_}
 use mathlib.Core.List.{List, _++_, map}
-use mathlib.Core.Bool.{true, false, true≢false, Bool}
+use mathlib.Core.Bool.{false, true≢false}
 use native.Mathlib.Omega.{arith}
 use lib.ListN.{length}
 use lib.Dec.{ltb}
@@ -33,19 +33,10 @@ use Rattle.state.specs.Asking.{slicesOf, permanentTests}
 use Rattle.state.proofs.Placed.{tests-sound}
 use Rattle.baselines.specs.Deriving.{derivedRecords, derivingTests, refusedDerivation, derivationOf}
 use Rattle.baselines.specs.Steps.{handedOf}
-use Rattle.baselines.specs.declared.derivation.Derivation.{Derivation}
-use Rattle.baselines.specs.declared.derivation.Derivation.the-variants.{Derived, Refused}
+use Rattle.baselines.specs.declared.derivation.Derivation.the-variants.{Derived}
 use Rattle.baselines.proofs.Pasted.{feature-long}
 use Rattle.baselines.proofs.Decided.{few-left}
 use Rattle.baselines.proofs.Right.{derived-views, derived-up}
-
-abbrev numberIn : Derivation → ℕ
-numberIn (Derived n) = n
-numberIn (Refused f) = 0
-
-abbrev isDerived : Derivation → Bool
-isDerived (Derived n) = true
-isDerived (Refused f) = false
 
 -- a derivation that is not refused
 pub record Deriving (p output : List ℕ) (n : ℕ) : Type 0 where
@@ -60,14 +51,15 @@ module _ (p output : List ℕ) (n : ℕ) where
   pub derived-told : derivationOf p output ≡ Derived n → Deriving p output n
   unfolding derivationOf derivingTests permanentTests
   derived-told e =
-      let (passed, same) = passed-answer refusedDerivation (Derived n) (λ k q. true≢false (sym (ap isDerived q))) (permanentTests p ++ derivingTests p output) (Derived (length (derivedRecords p))) e in
+      let (passed, same) = passed-answer refusedDerivation (Derived n) (λ k q. true≢false cc) (permanentTests p ++ derivingTests p output) (Derived (length (derivedRecords p))) e in
+      let number : length (derivedRecords p) ≡ n = cc in
       let (table, rest) = passed-split (permanentTests p) (derivingTests p output) passed in
       let (many, short) = or-neither (ltb 256 (length (derivedRecords p))) (ltb (length output) (32 + length (joined (derivedRecords p)))) (rest .1 .1 .0) in
       record {
         table = tests-sound Permanent p table;
         one = rest .0;
         sound = rest .1 .0;
-        number = sym (ap numberIn same);
+        number = sym number;
         few = ltb-false _ _ many;
         fits = ltb-false _ _ short;
       }

@@ -1,32 +1,34 @@
 -- What the noted times of a sound table tell of its slices: the BASELINE that holds at an instant, the PERMDELTAs of an instant, and the
 -- next change instant. And that the BASELINEs of a table in order stand in front. Assumes nothing.
-use Prim.Native.Nat.{ℕ, zero, suc, _+_, _≤_, _<_}
+use Prim.Native.Nat.{ℕ, zero, suc, _+_, _-_, _≤_, _<_}
 use mathlib.Core.Path.{_≡_, refl, sym, ap, _∙_, subst}
 use mathlib.Core.List.{List, [], _∷_}
-use mathlib.Core.Bool.{Bool, true, false}
+use mathlib.Core.Bool.{true, false}
 use mathlib.Core.Logic.{_⊎_, inl, inr, ⊎-elim}
-use lib.ListN.{length, drop, getD}
+use lib.ListN.{length, drop, getD, length-drop}
+use lib.Seq.{getD-drop}
 use lib.Dec.{leb, ltb, eqb}
 use borrow.Author.Tests.{eqb-true, eq-eqb, ne-eqb}
 use Rattle.laws.specs.Lists.{kept}
 use Rattle.laws.specs.Keyed.{In, Rising}
 use Rattle.laws.proofs.Tests.{tests, pick-ind, by-test, contrary, and-both, or-either}
 use Rattle.laws.proofs.Lists.{getD-in, in-at}
-use Rattle.laws.proofs.Orders.{lex-true}
+use Rattle.laws.proofs.Put.{rising-drop}
 use Rattle.octets.specs.Bytes.{byteOf, beOf, digits, each, there, filled}
 use Rattle.octets.proofs.Runs.{filled-join}
 use Rattle.numbers.specs.Numbers.{noInstant, none, isNone, before, atMost, sameInstant}
 use Rattle.numbers.specs.declared.Instant.{Instant}
-use Rattle.slice.specs.Record.{baseline, permdelta, ofSide, recordSize, kindOf, sequenceOf, keyOf, keyLess, sameKey, periodOf, lifeOf, Slice, viewOf}
+use Rattle.slice.specs.Record.{baseline, permdelta, ofSide, recordSize, kindOf, keyLess, sameKey, periodOf, lifeOf, Slice, viewOf}
 use Rattle.slice.specs.declared.check.Checked.the-variants.{Sound}
+use Rattle.slice.proofs.Keys.{key-order}
 use Rattle.slice.proofs.Sound.{SoundRecord}
-use Rattle.table.specs.Header.{sideOf, countOf, strideOf, roomOf, recordsOf, recordAt}
+use Rattle.table.specs.Header.{sideOf, countOf, strideOf, roomOf, recordAt}
 use Rattle.table.specs.Rules.{checkTable, checkOrder}
 use Rattle.table.specs.declared.check.Sides.the-variants.{Permanent}
-use Rattle.table.proofs.Records.{records-length, record-is, record-in}
+use Rattle.table.proofs.Records.{record-in}
 use Rattle.table.proofs.Sound.{sound-table, order-sound}
-use Rattle.table.proofs.Stays.{sound-in, order-in}
-use Rattle.history.specs.Counted.{counts, holds}
+use Rattle.table.proofs.Stays.{sound-in}
+use Rattle.history.specs.Counted.{counts, holds, sliceKey}
 use Rattle.history.specs.Period.{until}
 use Rattle.history.specs.Anchor.{stands, opens, based, opened, nowhere, only, anchor}
 use Rattle.history.specs.State.{State, applied, appliedAll}
@@ -36,44 +38,32 @@ use Rattle.history.proofs.Orders.{instant-of, counts-kind}
 use Rattle.history.proofs.Changes.{Changing, Bounded, begin-changing, end-changing, life-changing, delta-changing, changes-from, later, later-next, later-least, walk-below}
 use Rattle.history.proofs.Kept.{kept-nowhere, kept-one, kept-behind}
 use Rattle.state.specs.Asking.{slicesOf}
-use Rattle.state.proofs.Slices.{slices-length, slices-at, slice-at}
-use Rattle.baselines.specs.Noted.{Noted, Fronted, OpenedBy, Least, HeldBy, lies}
+use Rattle.state.proofs.Slices.{slices-length, slices-rising, slices-at, slice-at}
+use Rattle.state.proofs.Front.{kinds-rise}
+use Rattle.baselines.specs.Noted.{Noted, Fronted, LastOpening, Least, HeldBy, lies}
 use Rattle.baselines.specs.Carried.{Held}
 use Rattle.baselines.specs.Steps.{changeSince}
 
 -- ---- the BASELINEs of a table in order stand in front
--- of two places in a rising list the first has the lower key
-rising-at : {R K : Type 0} (key : R → K) (less same : K → K → Bool) (d : R) (l : List R) → Rising key less same l
-    → (i j : ℕ) → i < j → j < length l → less (key (getD l i d)) (key (getD l j d)) ≡ true
-rising-at key less same d [] up i j h k = absurd (omega tests)
-rising-at key less same d (x ∷ xs) up i zero h k = absurd (omega tests)
-rising-at key less same d (x ∷ xs) (low, up) zero (suc j) h k = low (getD xs j d) (getD-in xs j d (omega tests))
-rising-at key less same d (x ∷ xs) (low, up) (suc i) (suc j) h k = rising-at key less same d xs up i j (omega tests) (omega tests)
-
 module _ (p : List ℕ) (order : checkOrder p ≡ Sound) where
   abbrev kind : ℕ → ℕ
   kind j = kindOf (recordAt (recordSize (strideOf p)) j p)
 
-  -- a kind is at most those behind it
-  kinds-rise : (i j : ℕ) → i < j → j < countOf p → kind i ≤ kind j
-  unfolding keyLess
-  kinds-rise i j h k =
-      let size = recordSize (strideOf p) in
-      let rs = recordsOf size p in
-      let (roomy, rises) = order-sound p order in
-      let n = records-length size p in
-      let l = rising-at keyOf keyLess sameKey [] rs (order-in rs rises) i j h (omega tests) in
-      let a : kind i ≡ kindOf (getD rs i []) = ap kindOf (record-is size p i (omega tests) roomy) in
-      let b : kind j ≡ kindOf (getD rs j []) = ap kindOf (record-is size p j k roomy) in
-      ⊎-elim (λ x. omega tests) (λ x. omega (tests, x .0)) (lex-true (kindOf (getD rs i [])) (sequenceOf (getD rs i []) .0) (kindOf (getD rs j [])) (sequenceOf (getD rs j []) .0) l)
-
   -- they are the first n, where those are BASELINEs and the next, if there is one, is none
   pub front-is : (n : ℕ) → n ≤ countOf p → ((j : ℕ) → j < n → kind j ≤ baseline) → (n < countOf p → baseline < kind n) → Fronted p n
+  unfolding viewOf
   front-is n most front next = record {
     most = most;
     front = front;
-    behind = λ j h k. by-test (eqb j n) (λ y. let e : j ≡ n = omega tests in subst (λ (m : ℕ). baseline < kind m) (sym e) (next (omega tests)))
-        (λ y. omega (tests, next (omega tests), kinds-rise n j (omega tests) k));
+    behind = λ j h k. let (roomy, rises) = order-sound p order in
+        let slice : ℕ → Slice = λ i. viewOf (strideOf p) (recordAt (recordSize (strideOf p)) i p) in
+        let l : n < countOf p = omega tests in
+        let here = slices-at p n l roomy in
+        let up = rising-drop sliceKey keyLess sameKey key-order n (slicesOf p) (slices-rising p rises) in
+        let there : n + (j - n) ≡ j = omega tests in
+        let is : getD (drop n (slicesOf p)) (j - n) (slice j) ≡ slice j = getD-drop n (slicesOf p) (j - n) (slice j) ∙ ap (λ (i : ℕ). getD (slicesOf p) i (slice j)) there ∙ slice-at p j (slice j) k roomy in
+        let m = getD-in (drop n (slicesOf p)) (j - n) (slice j) (omega (tests, length-drop n (slicesOf p), slices-length p)) in
+        kinds-rise (slice n) (drop (n + 1) (slicesOf p)) (subst (Rising sliceKey keyLess sameKey) here up) (next l) (slice j) (subst (In (slice j)) here (subst (λ s. In s (drop n (slicesOf p))) is m));
   }
 
 -- ---- a cancelled record gives no time
@@ -206,7 +196,7 @@ module _ (p begins ends gones : List ℕ) (front : ℕ) (sound : checkTable Perm
       (λ j h k. ap (changesAt t) (slice-at p j (slice 0) (omega (tests, slices-length p)) roomy) ∙ front-none t j h)
 
   -- after the last opening no PERMDELTA of an instant opens the life
-  pub quiet : (last : ℕ) → OpenedBy p front last → (t : Instant) → t .0 < noInstant → last < t .0
+  pub quiet : (last : ℕ) → LastOpening p front (countOf p) last → (t : Instant) → t .0 < noInstant → last < t .0
       → (d : Slice) → In d slices → changesAt t d ≡ true → isNone (d .life .begin) ≡ true
   unfolding viewOf
   quiet last openings t late after d m y =
@@ -215,7 +205,7 @@ module _ (p begins ends gones : List ℕ) (front : ℕ) (sound : checkTable Perm
       let seen : slice j ≡ d = sym (slice-at p j (slice 0) k roomy) ∙ e in
       by-test (ltb j front) (λ z. contrary (ap (changesAt t) seen ∙ y) (front-none t j (omega tests)))
       (λ z. let here′ : getD begins j 0 ≡ t .0 = eqb-true _ _ (sym (change-here t late j (omega tests) k) ∙ ap (changesAt t) seen ∙ y) in
-      ⊎-elim (λ n. ap (λ (s : Slice). isNone (s .life .begin)) (sym seen) ∙ n) (λ l. absurd (omega (tests, noted j k .0))) (openings j (omega tests) k))
+      by-test (isNone (d .life .begin)) (λ n. n) (λ g. absurd (omega (tests, noted j k .0, openings .most j _ (omega tests) k (ap (λ (s : Slice). isNone (s .life .begin)) seen ∙ g, refl)))))
 
   -- ---- the next change instant
   abbrev instant : ℕ → Instant

@@ -20,6 +20,7 @@ use Rattle.numbers.specs.Numbers.{noInstant}
 use Rattle.numbers.specs.declared.Instant.{Instant}
 use Rattle.property.specs.Eight.{mentioned}
 use Rattle.slice.specs.Record.{baseline, permdelta, partsOf, keyLess, sameKey, Property, unmentioned, says, propertyOf, Slice, viewOf}
+use Rattle.slice.specs.declared.record.Life.{Life}
 use Rattle.slice.specs.Rules.{timesOf, timesRight}
 use Rattle.slice.specs.declared.check.Checked.the-variants.{Sound}
 use Rattle.slice.proofs.Times.{instant-most, permdelta-times}
@@ -35,7 +36,7 @@ use Rattle.history.specs.Parts.{tells}
 use Rattle.history.specs.Derived.{Stretch, stretches, filledIn, baselineOf, numberedFrom, derivedBaselines}
 use Rattle.history.specs.Source.{lastOf}
 use Rattle.history.proofs.Orders.{instant-of, counts-kind}
-use Rattle.history.proofs.Parts.{last-in, beginIn, endIn, line-begin, line-end, applied-length}
+use Rattle.history.proofs.Parts.{last-in, timeIn, line-begin, line-end, applied-length}
 use Rattle.history.proofs.Line.{line-in, known-line, line-within}
 use Rattle.history.proofs.Changes.{changes-below}
 use Rattle.history.proofs.Steady.{Timely}
@@ -111,15 +112,14 @@ module _ (p : List ℕ) (bytes : Bytes p) (sound : checkTable Permanent p ≡ So
         (slice-sized p Permanent sound d (there d n) b k, slice-mentioned d (there d n) b k)
 
     pub state-life : (s .life .begin .0 ≤ noInstant) × (s .life .end .0 ≤ noInstant)
-    state-life = rw (known-line t slices s e .3, line-begin first others, line-end first others) (begin (lastOf (tells 8) none (first ∷ others)) refl, end (lastOf (tells 9) none (first ∷ others)) refl)
+    state-life =
+        rw (known-line t slices s e .3, line-begin first others, line-end first others)
+        (one (λ l. l .begin) 8 (λ d m. life-bounded d m .0) _ refl, one (λ l. l .end) 9 (λ d m. life-bounded d m .1) _ refl)
       where
-        begin : (v : Option Slice) → lastOf (tells 8) none (first ∷ others) ≡ v → beginIn v .0 ≤ noInstant
-        begin none q = omega arith
-        begin (some d) q = life-bounded d (there d (last-in (tells 8) (first ∷ others) d q .0)) .0
-
-        end : (v : Option Slice) → lastOf (tells 9) none (first ∷ others) ≡ v → endIn v .0 ≤ noInstant
-        end none q = omega arith
-        end (some d) q = life-bounded d (there d (last-in (tells 9) (first ∷ others) d q .0)) .1
+        one : (time : Life → Instant) (q : ℕ) → ((d : Slice) → In d slices → time (d .life) .0 ≤ noInstant)
+            → (v : Option Slice) → lastOf (tells q) none (first ∷ others) ≡ v → timeIn time v .0 ≤ noInstant
+        one time q h none e = omega arith
+        one time q h (some d) e = h d (there d (last-in (tells q) (first ∷ others) d e .0))
 
   -- ---- the derived BASELINEs
   abbrev unknown : List ℕ

@@ -25,11 +25,14 @@ pub record Fronted (p : List ℕ) (n : ℕ) : Type 0 where
   pub front : (j : ℕ) → j < n → kindOf (recordAt (recordSize (strideOf p)) j p) ≤ baseline
   pub behind : (j : ℕ) → n ≤ j → j < countOf p → baseline < kindOf (recordAt (recordSize (strideOf p)) j p)
 
--- behind the front no record opens the life after one time
-abbrev pub OpenedBy : List ℕ → ℕ → ℕ → Type 0
-OpenedBy p front last =
-    (j : ℕ) → front ≤ j → j < countOf p
-    → let r = recordAt (recordSize (strideOf p)) j p in (isNone (lifeOf r .begin) ≡ true) ⊎ (periodOf r .begin .0 ≤ last)
+-- a record opens the life: it gives the life begin, at its own begin
+abbrev pub OpensAt : List ℕ → ℕ → ℕ → Type 0
+OpensAt p j time = let r = recordAt (recordSize (strideOf p)) j p in (isNone (lifeOf r .begin) ≡ false) × (periodOf r .begin .0 ≡ time)
+
+-- last is the last time at which one of the records from one place up to another opens the life, or 0
+pub record LastOpening (p : List ℕ) (front n last : ℕ) : Type 0 where
+  pub one : (last ≡ 0) ⊎ ((j : ℕ) × (front ≤ j) × (j < n) × OpensAt p j last)
+  pub most : (j time : ℕ) → front ≤ j → j < n → OpensAt p j time → time ≤ last
 
 -- r is the soonest of the first of some times that are no earlier than one, and so far it was best
 pub record Least (since best : ℕ) (times : List ℕ) (count r : ℕ) : Type 0 where

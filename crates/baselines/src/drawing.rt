@@ -6,12 +6,12 @@ ghost use lib.ListN.{length};
 ghost use Rattle.octets.specs.Writing.{bytesOf, pasted};
 ghost use Rattle.slice.specs.Record.{recordSize};
 ghost use Rattle.slice.specs.declared.check.Checked.the-variants.{Sound};
-ghost use Rattle.table.specs.Header.{strideOf};
+ghost use Rattle.table.specs.Header.{countOf, strideOf};
 ghost use Rattle.table.specs.Rules.{checkTable};
 ghost use Rattle.table.specs.declared.check.Sides.the-variants.{Permanent};
 ghost use Rattle.history.specs.Permanent.{Standing};
 ghost use Rattle.state.specs.Asking.{outcomeOf};
-ghost use Rattle.baselines.specs.Noted.{Noted, Fronted, OpenedBy};
+ghost use Rattle.baselines.specs.Noted.{Noted, Fronted, LastOpening};
 ghost use Rattle.baselines.specs.Carried.{Shows};
 ghost use Rattle.baselines.specs.Steps.{stepOf, afterStep, drawnOf, Drew};
 use crate::onward::go_on;
@@ -113,7 +113,7 @@ fn walk(
     front: Front,
     drawn: &mut [u8],
 ) -> Drawn
-    requires { ⌜ (checkTable Permanent (now permanent) ≡ Sound) × (Noted (now permanent) (now begins) (now ends) (now gones) × (Fronted (now permanent) (front .end) × (OpenedBy (now permanent) (front .end) (front .opened) × ((length (now begins) ≡ 256) × ((length (now ends) ≡ 256) × ((length (now gones) ≡ 256) × (length (now drawn) ≡ 257 * recordSize (strideOf (now permanent))))))))) ⌝ }
+    requires { ⌜ (checkTable Permanent (now permanent) ≡ Sound) × (Noted (now permanent) (now begins) (now ends) (now gones) × (Fronted (now permanent) (front .end) × (LastOpening (now permanent) (front .end) (countOf (now permanent)) (front .opened) × ((length (now begins) ≡ 256) × ((length (now ends) ≡ 256) × ((length (now gones) ≡ 256) × (length (now drawn) ≡ 257 * recordSize (strideOf (now permanent))))))))) ⌝ }
     ensures answer { λ r. ⌜ r ≡ drawnOf (now (permanent .entry)) ⌝ }
     ensures buffer { λ r. ⌜ Drew r (now (permanent .entry)) (now (drawn .exit)) ⌝ }
 {

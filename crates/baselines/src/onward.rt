@@ -10,7 +10,7 @@ ghost use Rattle.octets.specs.Writing.{bytesOf, pasted};
 ghost use Rattle.numbers.specs.Numbers.{isNone, given, atMost};
 ghost use Rattle.slice.specs.Record.{recordSize, lifeOf, viewOf};
 ghost use Rattle.slice.specs.declared.check.Checked.the-variants.{Sound};
-ghost use Rattle.table.specs.Header.{strideOf};
+ghost use Rattle.table.specs.Header.{countOf, strideOf};
 ghost use Rattle.table.specs.Rules.{checkTable};
 ghost use Rattle.table.specs.declared.check.Sides.the-variants.{Permanent};
 ghost use Rattle.history.specs.State.{applied, appliedAll};
@@ -18,7 +18,7 @@ ghost use Rattle.history.specs.Permanent.{permanentAt};
 ghost use Rattle.history.specs.Onward.{changesAt};
 ghost use Rattle.state.specs.Asking.{slicesOf, refusedOutcome, outcomeOf};
 ghost use Rattle.state.specs.declared.answer.Outcome.the-variants.{Written};
-ghost use Rattle.baselines.specs.Noted.{Noted, Fronted, OpenedBy};
+ghost use Rattle.baselines.specs.Noted.{Noted, Fronted, LastOpening};
 ghost use Rattle.baselines.specs.Carried.{Turns, Shows, mentionsOver, Before, Held};
 use crate::times::Front;
 use crate::times::Holders;
@@ -127,7 +127,7 @@ pub(crate) fn go_on(
     past: Past,
     instant: Instant,
 ) -> Outcome
-    requires { ⌜ (checkTable Permanent (now permanent) ≡ Sound) × (((ends : List ℕ) × (gones : List ℕ) × Noted (now permanent) (now begins) ends gones) × (Fronted (now permanent) (front .end) × (OpenedBy (now permanent) (front .end) (front .opened) × (Held (now permanent) instant (held .count) (held .place) × ((length (now begins) ≡ 256) × ((isNone instant ≡ false) × ((length (now current) ≡ recordSize (strideOf (now permanent))) × Before (now permanent) instant (past .had) (past .free) (now current)))))))) ⌝ }
+    requires { ⌜ (checkTable Permanent (now permanent) ≡ Sound) × (((ends : List ℕ) × (gones : List ℕ) × Noted (now permanent) (now begins) ends gones) × (Fronted (now permanent) (front .end) × (LastOpening (now permanent) (front .end) (countOf (now permanent)) (front .opened) × (Held (now permanent) instant (held .count) (held .place) × ((length (now begins) ≡ 256) × ((isNone instant ≡ false) × ((length (now current) ≡ recordSize (strideOf (now permanent))) × Before (now permanent) instant (past .had) (past .free) (now current)))))))) ⌝ }
     ensures answer { λ r. ⌜ r ≡ outcomeOf (permanentAt instant (slicesOf (now (permanent .entry)))) ⌝ }
     ensures buffer { λ r. ⌜ Shows (strideOf (now (permanent .entry))) (permanentAt instant (slicesOf (now (permanent .entry)))) (now (current .exit)) ⌝ }
 {

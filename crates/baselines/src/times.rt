@@ -8,7 +8,7 @@ ghost use Rattle.slice.specs.declared.check.Checked.the-variants.{Sound};
 ghost use Rattle.table.specs.Header.{countOf, strideOf, roomOf};
 ghost use Rattle.table.specs.Rules.{checkTable, checkOrder};
 ghost use Rattle.table.specs.declared.check.Sides.the-variants.{Permanent};
-ghost use Rattle.baselines.specs.Noted.{Noted, Fronted, OpenedBy, Least, HeldBy, lies};
+ghost use Rattle.baselines.specs.Noted.{Noted, Fronted, LastOpening, Least, HeldBy, lies};
 ghost use Rattle.baselines.specs.Steps.{changeSince};
 use numbers::Instant;
 use octets::byte;
@@ -65,10 +65,10 @@ fn greater(a: u32, b: u32) -> u32
     if a < b { b } else { a }
 }
 
-// The last instant at which a PERMDELTA opens the life, or 0.
+// The last instant at which a record from a place on opens the life, or 0.
 fn last_opening(permanent: &[u8], front: usize) -> u32
-    requires { ⌜ countOf (now permanent) ≤ roomOf (recordSize (strideOf (now permanent))) (now permanent) ⌝ }
-    ensures { λ r. ⌜ OpenedBy (now (permanent .entry)) front r ⌝ }
+    requires { ⌜ front ≤ countOf (now permanent) ⌝ }
+    ensures { λ r. ⌜ LastOpening (now (permanent .entry)) front (countOf (now (permanent .entry))) r ⌝ }
 {
     let size = 32 + 8 * stride_of(permanent);
     let count = count_of(permanent) as usize;
@@ -99,7 +99,7 @@ pub struct Front {
 pub(crate) fn front_of(permanent: &[u8]) -> Front
     requires { ⌜ checkOrder (now permanent) ≡ Sound ⌝ }
     ensures end { λ r. ⌜ Fronted (now (permanent .entry)) (r .end) ⌝ }
-    ensures opened { λ r. ⌜ OpenedBy (now (permanent .entry)) (r .end) (r .opened) ⌝ }
+    ensures opened { λ r. ⌜ LastOpening (now (permanent .entry)) (r .end) (countOf (now (permanent .entry))) (r .opened) ⌝ }
 {
     let end = front_end(permanent);
     let opened = last_opening(permanent, end);

@@ -3,7 +3,7 @@
 use Prim.Native.Nat.{ℕ, _+_, _*_, _<_}
 use mathlib.Core.Path.{_≡_, refl, sym, ap, _∙_, subst}
 use mathlib.Core.List.{List, [], _∷_, _++_}
-use mathlib.Core.Bool.{false, not}
+use mathlib.Core.Bool.{false, true≢false, not}
 use mathlib.Core.Logic.{inl, inr, ⊎-elim}
 use mathlib.Core.Option.{Option, none, some}
 use native.Mathlib.Omega.{arith}
@@ -43,7 +43,7 @@ use Rattle.state.proofs.Placed.{place-bytes, tests-sound}
 
 -- ---- what a snapshot that is written tells
 written-apart : (n : ℕ) → refusedOutcome n ≡ outcome.Written → ⊥
-written-apart n e = let z : _≡_ {A = ℕ} 0 1 = cc in omega arith
+written-apart n e = true≢false cc
 
 module _ (p t : List ℕ) (at : Instant) where
   -- both tables are sound, the tests that come before the property's are passed, and a state is known

@@ -46,7 +46,7 @@ run-first : (f : ℕ → List ℕ) (n : ℕ) → runOf f (suc n) ≡ f 0 ++ runO
 run-first f zero = sym (append-nil (f 0))
 run-first f (suc n) = ap (λ l. l ++ f (suc n)) (run-first f n) ∙ append-assoc (f 0) (runOf (λ i. f (suc i)) n) (f (suc n))
 
-pub run-joined : (f : ℕ → List ℕ) (l : List Property) (stride n : ℕ) → length l ≡ n → ((i : ℕ) → i < n → f i ≡ propertyBytes stride (getD l i unmentioned))
+run-joined : (f : ℕ → List ℕ) (l : List Property) (stride n : ℕ) → length l ≡ n → ((i : ℕ) → i < n → f i ≡ propertyBytes stride (getD l i unmentioned))
     → runOf f n ≡ joined (map (propertyBytes stride) l)
 run-joined f [] stride zero e h = refl
 run-joined f [] stride (suc n) e h = absurd (omega arith)

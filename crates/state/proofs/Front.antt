@@ -11,7 +11,7 @@ use Rattle.laws.proofs.Tests.{tests}
 use Rattle.laws.proofs.Orders.{lex-true}
 use Rattle.numbers.specs.declared.Instant.{Instant}
 use Rattle.slice.specs.Record.{baseline, permdelta, keyLess, sameKey, Slice}
-use Rattle.history.specs.Counted.{counts, holds, sliceKey}
+use Rattle.history.specs.Counted.{counts, sliceKey}
 use Rattle.history.specs.Anchor.{stands}
 use Rattle.history.specs.Parts.{tells, due, opensDue}
 

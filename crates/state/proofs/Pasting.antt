@@ -7,12 +7,9 @@ use native.Mathlib.Omega.{arith}
 use lib.Dec.{eqb}
 use lib.Seq.{length-take-le}
 use lib.ListN.{length, getD, take, drop, replicate, length-append, length-drop, drop-of-length-le, take-append-drop}
-use Rattle.octets.specs.Writing.{bytesOf, pasted}
-use Rattle.octets.proofs.Writing.{pasted-length, pasted-then, pasted-whole}
-use Rattle.slice.specs.declared.record.Life.{Life}
-use Rattle.numbers.specs.Numbers.{none}
-use Rattle.numbers.specs.declared.Instant.{Instant}
-use Rattle.state.specs.Written.{stateKind, stateTimes, nilUnknown}
+use Rattle.octets.specs.Writing.{pasted}
+use Rattle.octets.proofs.Writing.{pasted-then, pasted-whole}
+use Rattle.state.specs.Written.{nilUnknown}
 use Rattle.slice.specs.Record.{recordSize}
 use Rattle.table.specs.Header.{countOf, strideOf, roomOf, recordAt}
 use Rattle.state.specs.Steps.{nothing, saidAt, propertyBy, propertyFrom, runOf, Known}
@@ -23,28 +20,15 @@ use Rattle.state.proofs.Walks.{size-at}
 use Rattle.laws.proofs.Pieces.{piece-within}
 use Rattle.laws.proofs.Tests.{pick-ind}
 
--- four times
-pub times-pasted : (d : List ℕ) (t : Instant) (l : Life) → 32 ≤ length d
-    → pasted (pasted (pasted (pasted d 8 (bytesOf 4 (t .0))) 12 (bytesOf 4 (none .0))) 16 (bytesOf 4 (l .begin .0))) 20 (bytesOf 4 (l .end .0)) ≡ pasted d 8 (stateTimes t l)
-times-pasted d t l h =
-    let a = bytesOf 4 (t .0) in
-    let b = bytesOf 4 (none .0) in
-    let c = bytesOf 4 (l .begin .0) in
-    let e = bytesOf 4 (l .end .0) in
-    let d₁ = pasted d 8 a in
-    let d₂ = pasted d₁ 12 b in
-    let n₁ : length d₁ ≡ length d = pasted-length d a 8 in
-    let n₂ : length d₂ ≡ length d = pasted-length d₁ b 12 ∙ n₁ in
-    pasted-then d₂ c e 16 20 refl (omega arith)
-    ∙ (pasted-then d₁ b (c ++ e) 12 16 refl (omega arith) ∙ pasted-then d a (b ++ (c ++ e)) 8 12 refl (omega arith))
+-- one part behind another
+pub pasted-on : (d a b : List ℕ) (at k : ℕ) {d₁ d₂ : List ℕ} → d₁ ≡ pasted d at a → d₂ ≡ pasted d₁ k b → at + length a ≡ k → k + length b ≤ length d → d₂ ≡ pasted d at (a ++ b)
+pasted-on d a b at k e f n h = f ∙ (ap (λ (l : List ℕ). pasted l k b) e ∙ pasted-then d a b at k n h)
 
--- what comes before the properties
-pub head-pasted : (d : List ℕ) (t : Instant) (l : Life) → 32 ≤ length d
-    → pasted (pasted (pasted d 0 stateKind) 8 (stateTimes t l)) 24 (replicate 8 0) ≡ pasted d 0 (stateKind ++ (stateTimes t l ++ replicate 8 0))
-head-pasted d t l h =
-    let d₁ = pasted d 0 stateKind in
-    let n₁ : length d₁ ≡ length d = pasted-length d stateKind 0 in
-    pasted-then d₁ (stateTimes t l) (replicate 8 0) 8 24 refl (omega arith) ∙ pasted-then d stateKind (stateTimes t l ++ replicate 8 0) 0 8 refl (omega arith)
+-- all of some bytes, written over
+pub pasted-all : (d r : List ℕ) → length d ≡ length r → pasted d 0 r ≡ r
+pasted-all d r e =
+    let past : length d ≤ 0 + length r = omega arith in
+    pasted-whole d r 0 (omega arith) ∙ ap (λ (l : List ℕ). r ++ l) (drop-of-length-le d past) ∙ append-nil r
 
 -- nil, unknown
 take-zeros : (n m : ℕ) → n ≤ m → take {A = ℕ} n (replicate m 0) ≡ replicate n 0
@@ -66,11 +50,7 @@ run-pasted d f stride n h k room =
 
 -- the head and then the properties are all of the record
 pub whole-pasted : (d a b : List ℕ) → length a ≡ 32 → length d ≡ 32 + length b → pasted (pasted d 0 a) 32 b ≡ a ++ b
-whole-pasted d a b h k =
-    let n : 0 + length (a ++ b) ≡ length d = omega (arith, length-append a b) in
-    let past : length d ≤ 0 + length (a ++ b) = omega arith in
-    let r : drop (0 + length (a ++ b)) d ≡ [] = drop-of-length-le d past in
-    pasted-then d a b 0 32 (omega arith) (omega arith) ∙ (pasted-whole d (a ++ b) 0 (omega arith) ∙ (ap (λ l. (a ++ b) ++ l) r ∙ append-nil (a ++ b)))
+whole-pasted d a b h k = pasted-then d a b 0 32 (omega arith) (omega arith) ∙ pasted-all d (a ++ b) (omega (arith, length-append a b))
 
 -- a property as the record of a place and one says it
 pub said-cut : (t : List ℕ) (n k : ℕ) → (k ≡ 0 → ⊥) → take (strideOf t) (drop (32 + n * strideOf t) (recordAt (recordSize (strideOf t)) (k - 1) t)) ≡ saidAt t n k

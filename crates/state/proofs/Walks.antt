@@ -25,14 +25,22 @@ module _ (t : List ℕ) (roomy : countOf t ≤ roomOf (recordSize (strideOf t)) 
   pub place-most : (i : ℕ) → i < countOf t → i < 256
   place-most i h = omega (arith, room-most size t)
 
--- a record that was read by a stride, which is the table's
-module _ (t : List ℕ) (i : ℕ) {n : ℕ} {r : List ℕ} (e : n ≡ strideOf t) where
-  pub read-by : r ≡ recordAt (32 + 8 * n) i t → r ≡ recordAt (recordSize (strideOf t)) i t
-  read-by f = f ∙ ap (λ (n : ℕ). recordAt (32 + 8 * n) i t) e
+-- what was read is the record that stands at a place: it says the slice of that place, it has its size, and the place is small
+pub record Read (t : List ℕ) (i n : ℕ) (r : List ℕ) : Type 0 where
+  pub is : r ≡ recordAt (recordSize (strideOf t)) i t
+  pub seen : viewOf n r ≡ viewOf (strideOf t) (recordAt (recordSize (strideOf t)) i t)
+  pub sized : length r ≡ recordSize n
+  pub small : i < 256
 
-  module _ (f : r ≡ recordAt (recordSize (strideOf t)) i t) where
-    pub seen-by : viewOf n r ≡ viewOf (strideOf t) (recordAt (recordSize (strideOf t)) i t)
-    seen-by = ap (λ (n : ℕ). viewOf n r) e ∙ ap (viewOf (strideOf t)) f
+-- it was read by a stride, which is the table's
+module _ (t : List ℕ) (i : ℕ) {n : ℕ} {r : List ℕ} (e : n ≡ strideOf t) (f : r ≡ recordAt (32 + 8 * n) i t) where
+  pub read-by : r ≡ recordAt (recordSize (strideOf t)) i t
+  read-by = f ∙ ap (λ (n : ℕ). recordAt (32 + 8 * n) i t) e
 
-    pub sized-by : countOf t ≤ roomOf (recordSize (strideOf t)) t → i < countOf t → length r ≡ recordSize n
-    sized-by roomy h = ap length f ∙ (size-at t roomy i h ∙ sym (ap recordSize e))
+  pub read-here : countOf t ≤ roomOf (recordSize (strideOf t)) t → i < countOf t → Read t i n r
+  read-here roomy h = record {
+    is = read-by;
+    seen = ap (λ (n : ℕ). viewOf n r) e ∙ ap (viewOf (strideOf t)) read-by;
+    sized = ap length read-by ∙ (size-at t roomy i h ∙ sym (ap recordSize e));
+    small = place-most t roomy i h;
+  }

@@ -20,7 +20,7 @@ use Rattle.state.specs.Written.{propertyBytes, stateRecord}
 use Rattle.state.proofs.Slices.{propertyAt, view-property}
 
 -- one that is mentioned is written as its bytes
-mention-bytes : (stride : ℕ) (c : Bool) (b : List ℕ) → isMentioned (cond c (says b) unmentioned) ≡ true → propertyBytes stride (cond c (says b) unmentioned) ≡ b
+pub mention-bytes : (stride : ℕ) (c : Bool) (b : List ℕ) → isMentioned (cond c (says b) unmentioned) ≡ true → propertyBytes stride (cond c (says b) unmentioned) ≡ b
 mention-bytes stride true b e = refl
 mention-bytes stride false b e = contrary e refl
 

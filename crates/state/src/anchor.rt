@@ -1,6 +1,6 @@
 // Where the state at an instant starts: its anchor, and whether the feature is withdrawn.
 ghost use mathlib.Core.Path.{_≡_};
-ghost use Prim.Native.Nat.{ℕ, _≤_, _<_};
+ghost use Prim.Native.Nat.{_≤_, _<_};
 ghost use lib.ListN.{length, getD};
 ghost use Rattle.slice.specs.Record.{recordSize, viewOf};
 ghost use Rattle.table.specs.Header.{countOf, strideOf, roomOf};

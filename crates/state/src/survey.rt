@@ -160,14 +160,11 @@ pub(crate) fn survey_permanent(permanent: &[u8], instant: Instant, from: usize, 
             let new = mark_of(record, i);
             let mut part = from;
             while part < to {
-                let mark = latest.marks[part];
-                latest.marks[part] = later(mark, new, mentions(record, stride, part));
+                latest.marks[part] = later(latest.marks[part], new, mentions(record, stride, part));
                 part += 1;
             }
-            let begin = latest.marks[8];
-            latest.marks[8] = later(begin, new, gives(record, stride, 8));
-            let end = latest.marks[9];
-            latest.marks[9] = later(end, new, gives(record, stride, 9));
+            latest.marks[8] = later(latest.marks[8], new, gives(record, stride, 8));
+            latest.marks[9] = later(latest.marks[9], new, gives(record, stride, 9));
         }
         i += 1;
     }

@@ -39,12 +39,6 @@ told c = sym (c .before .before .before .draw-all .ensures .0) ∙ c .count .giv
 all-sound : (c : tie.Else1) → let p = table (checked (c .before .before .before .before .before)) in any (fails (strideOf p) permanent) (derivedRecords p) ≡ false
 all-sound c = let t = told-records _ _ _ (told (c .before .before)) in not-true _ (sym (t .2) ∙ not-false _ (c .if1 .left))
 
-returns : tie.Need-returns
-returns c = (table-refused _ _ _ (sym (c .before .before .before .check-table .ensures) ∙ c .before .refusal .given .1), refl)
-
-draw-all-requires : tie.Need-draw-all-requires
-draw-all-requires c κs = (sound (c .before), refl)
-
 returns-2 : tie.Need-returns-2
 returns-2 c =
     let k = c .before .before in
@@ -85,10 +79,10 @@ derive-spec =
     (tie.spec
     (λ c κs. search needs)
     (λ c. search needs)
-    returns
+    (λ c. (table-refused _ _ _ (sym (c .before .before .before .check-table .ensures) ∙ c .before .refusal .given .1), refl))
     (λ c. search needs)
     (λ c. search needs)
-    draw-all-requires
+    (λ c κs. (sound (c .before), refl))
     (λ c. search needs)
     (λ c. search needs)
     returns-2

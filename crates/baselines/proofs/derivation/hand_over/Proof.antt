@@ -39,12 +39,6 @@ part c =
     let n : start c .args .count * (32 + 8 * c .stride-of .result) - 0 ≡ start c .args .count * 224 = omega (arith, sized c) in
     ap (λ (m : ℕ). take m (start c .args .drawn .now)) n ∙ start c .pre .1 .1 .1 .1
 
-mul-length-2 : tie.Need-mul-length-2
-mul-length-2 c = omega (arith, sized c, start c .pre .1 .0)
-
-add-if1 : tie.Need-add-if1
-add-if1 c = omega (arith, sized c, start c .pre .1 .0)
-
 returns : tie.Need-returns
 unfolding handedOf
 returns c =
@@ -82,8 +76,8 @@ hand-over-spec =
     (λ c κs. search needs)
     (λ c. search needs)
     (λ c. search needs)
-    mul-length-2
-    add-if1
+    (λ c. omega (arith, sized c, start c .pre .1 .0))
+    (λ c. omega (arith, sized c, start c .pre .1 .0))
     returns
     (λ c. search needs)
     (λ c. search needs)

@@ -1,10 +1,7 @@
 -- `baselines::derivation::put_header` meets its contract: four parts, one behind the other, are the header. Assumes nothing.
-use Prim.Native.Nat.{ℕ}
-use mathlib.Core.Path.{ap, _∙_}
-use mathlib.Core.List.{List}
-use lib.ListN.{replicate}
-use Rattle.octets.specs.Writing.{bytesOf, pasted}
-use Rattle.baselines.proofs.Pasted.{header-pasted}
+use mathlib.Core.Path.{refl}
+use native.Mathlib.Omega.{arith}
+use Rattle.state.proofs.Pasting.{pasted-on}
 use borrow.Author.Needs.{needs}
 use Rattle.baselines.proofs.derivation.put_header.Statement.{statement}
 use Rattle.baselines.proofs.derivation.put_header.Tie as tie
@@ -16,9 +13,8 @@ returns c =
     let p2 = p3 .before .before .before .before in
     let p1 = p2 .before .before .before .before in
     let s = p1 .before .before .before .before .before in
-    p4 .put3 .ensures
-    ∙ ap (λ (l : List ℕ). pasted l 24 (replicate 8 0)) (p3 .put2 .ensures ∙ ap (λ (l : List ℕ). pasted l 8 (s .args .feature .now)) (p2 .put16 .ensures ∙ ap (λ (l : List ℕ). pasted l 6 (bytesOf 2 (s .args .count))) (p1 .put .ensures)))
-    ∙ header-pasted _ _ _ (s .pre .0) (s .pre .1)
+    let (roomy, long) = s .pre in
+    pasted-on _ _ _ 0 24 (pasted-on _ _ _ 0 8 (pasted-on _ _ _ 0 6 (p1 .put .ensures) (p2 .put16 .ensures) refl (omega arith)) (p3 .put2 .ensures) refl (omega arith)) (p4 .put3 .ensures) (omega arith) (omega arith)
 
 pub put-header-spec : {M : Type 1} → statement M
 put-header-spec =

@@ -8,9 +8,10 @@ use Rattle.slice.specs.Check.{checkRecord}
 use Rattle.history.specs.Permanent.{Standing, known}
 use Rattle.history.specs.State.{State}
 use Rattle.state.specs.Asking.{outcomeOf}
+use Rattle.state.proofs.Pasting.{pasted-all}
 use Rattle.baselines.specs.Carried.{Shows}
 use Rattle.baselines.specs.Steps.{drawnRecord, stepOf, afterStep}
-use Rattle.baselines.proofs.Carried.{pasted-all, carried-drawn}
+use Rattle.baselines.proofs.Carried.{carried-drawn}
 use Rattle.baselines.proofs.Standings.{told-refused, told-written, step-sound, step-unsound}
 use borrow.Author.Needs.{needs}
 use Rattle.baselines.proofs.drawing.draw.Statement.{statement}

@@ -6,9 +6,6 @@ use borrow.Author.Needs.{needs}
 use Rattle.baselines.proofs.drawing.draw_all.Statement.{statement}
 use Rattle.baselines.proofs.drawing.draw_all.Tie as tie
 
-note-requires : tie.Need-note-requires
-note-requires c κs = (sound-table Permanent _ (c .before .before .before .before .before .pre .0) .roomy, (refl, (refl, refl)))
-
 front-of-requires : tie.Need-front-of-requires
 front-of-requires c κs = sound-order Permanent _ (sound-table Permanent _ (c .before .before .before .before .before .before .before .before .before .before .before .before .pre .0))
 
@@ -29,7 +26,7 @@ draw-all-spec =
     (λ c. search needs)
     (λ c. search needs)
     (λ c. search needs)
-    note-requires
+    (λ c κs. (sound-table Permanent _ (c .before .before .before .before .before .pre .0) .roomy, (refl, (refl, refl))))
     (λ c. search needs)
     (λ c. search needs)
     (λ c. search needs)

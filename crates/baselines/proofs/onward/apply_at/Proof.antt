@@ -1,5 +1,5 @@
 -- `baselines::onward::apply_at` meets its contract. The loop: the record says a state from which the PERMDELTAs that are left lead where all lead. Assumes nothing.
-use Prim.Native.Nat.{ℕ, _+_, _*_, _-_, _≤_, _<_}
+use Prim.Native.Nat.{ℕ, _-_, _≤_, _<_}
 use mathlib.Core.Path.{_≡_, refl, sym, ap, subst, _∙_}
 use mathlib.Core.List.{List}
 use mathlib.Core.Logic.{⊎-elim}
@@ -17,7 +17,7 @@ use Rattle.history.specs.State.{State, applied, appliedAll}
 use Rattle.history.specs.Onward.{changesAt}
 use Rattle.state.specs.Asking.{slicesOf}
 use Rattle.state.proofs.Slices.{slices-end}
-use Rattle.state.proofs.Walks.{place-most, read-by, sized-by}
+use Rattle.state.proofs.Walks.{place-most, read-by, Read, read-here}
 use Rattle.baselines.specs.Carried.{Carries, Turns}
 use Rattle.baselines.proofs.Noted.{front-still, next-applied, next-passed}
 use borrow.Author.Needs.{needs}
@@ -66,19 +66,16 @@ unfolding noInstant
 absent c = let n = none-false (start (c .before .before .before) .args .instant) (start (c .before .before .before) .pre .1 .1 .1 .1 .0) in omega (arith, n, c .struct-known .given)
 
 -- the record is read by the stride that the table told
-abbrev stride : tie.At-loop Inv-loop μ-loop → ℕ
-stride l = l .before .before .stride-of .result
-
-read : (l : tie.At-loop Inv-loop μ-loop) {r : List ℕ} → r ≡ recordAt (32 + 8 * stride l) (l .loop .i) (table l) → r ≡ recordAt (recordSize (strideOf (table l))) (l .loop .i) (table l)
-read l e = read-by (table l) (l .loop .i) (l .before .before .stride-of .ensures) e
+read : (c : tie.After-record-at Inv-loop μ-loop) → let l = c .before .before .before .before .before .before in Read (table l) (l .loop .i) (l .before .before .stride-of .result) (c .record-at .result .now)
+read c =
+    let k = c .before .before .before .before .before in
+    let l = k .before in
+    read-here (table l) (l .loop .i) (l .before .before .stride-of .ensures) (c .record-at .ensures .0) (roomy l) (inside k)
 
 apply-requires : tie.Need-apply-requires Inv-loop μ-loop
 apply-requires c κs =
-    let k = c .before .before .before .before .before in
-    let l = k .before in
-    let s = start l in
-    let told = l .before .before .stride-of .ensures in
-    (sized-by (table l) (l .loop .i) told (read l (c .record-at .ensures .0)) (roomy l) (inside k), l .loop .inv .1 .1 .0 ∙ s .pre .1 .1 .1 .1 .1 ∙ sym (ap recordSize told))
+    let l = c .before .before .before .before .before .before in
+    (read c .sized, l .loop .inv .1 .1 .0 ∙ start l .pre .1 .1 .1 .1 .1 ∙ sym (ap recordSize (l .before .before .stride-of .ensures)))
 
 loop-again : tie.Need-loop-again Inv-loop μ-loop
 loop-again c =
@@ -101,7 +98,7 @@ loop-again c =
           ap length e ∙ v .given ∙ l .loop .inv .1 .1 .0,
           λ t h. let (x, q, f) = l .loop .inv .1 .1 .1 t h in
               let turns : Turns (strideOf p) (λ z. applied z (viewOf (strideOf p) (recordAt (recordSize (strideOf p)) i p))) (l .loop .«record») (u .last .0) =
-              subst (λ (d : List ℕ). Turns (strideOf p) (λ z. applied z (viewOf (strideOf p) d)) (l .loop .«record») (u .last .0)) (read l (r .ensures .0))
+              subst (λ (d : List ℕ). Turns (strideOf p) (λ z. applied z (viewOf (strideOf p) d)) (l .loop .«record») (u .last .0)) (read-by p i (l .before .before .stride-of .ensures) (r .ensures .0))
               (subst (λ (m : ℕ). Turns m (λ z. applied z (viewOf m (r .result .now))) (l .loop .«record») (u .last .0)) (l .before .before .stride-of .ensures) (u .ensures)) in
               (applied x (viewOf (strideOf p) (recordAt (recordSize (strideOf p)) i p)), rw e (turns x q), sym (next-applied p (a .begins .now) ends gones (a .front) (s .pre .0) noted fronted (a .instant) late i (l .loop .inv .0) (inside k) x (y .taken)) ∙ f),
         ),

@@ -27,9 +27,9 @@ use Rattle.history.proofs.Orders.{instant-of}
 use Rattle.history.proofs.Line.{known-apart}
 use Rattle.state.specs.Asking.{slicesOf, outcomeOf}
 use Rattle.state.proofs.Walks.{size-at, read-by}
+use Rattle.state.proofs.Pasting.{pasted-all}
 use Rattle.baselines.specs.Carried.{Carries, Before, Held}
 use Rattle.baselines.proofs.Standings.{answered}
-use Rattle.baselines.proofs.Carried.{pasted-all}
 use Rattle.baselines.proofs.Noted.{quiet}
 use Rattle.baselines.proofs.Reached.{asked-shows, left-told, left-shows, Went, went-open, base-carries, base-begun, base-stands, went-on, stayed-withdrawn}
 use borrow.Author.Needs.{needs}

@@ -15,11 +15,5 @@ test c =
     (λ i. given (sym (q .life-of .ensures) i .end) && atMost (sym (q .life-of .ensures) i .end) (a .instant))
     ∙ ap₂ (λ x y. not x && y) (sym (c .before .is-none .ensures)) (sym (c .at-most .ensures))
 
-returns : tie.Need-returns
-returns c = sym (rw (test (c .before) ∙ c .if1 .taken))
-
-returns-2 : tie.Need-returns-2
-returns-2 c = sym (rw (test (c .before) ∙ c .if1 .left))
-
 pub left-at-spec : {M : Type 1} → statement M
-left-at-spec = tie.close (tie.spec (λ c κs. search needs) (λ c κs. search needs) (λ c κs. search needs) returns returns-2)
+left-at-spec = tie.close (tie.spec (λ c κs. search needs) (λ c κs. search needs) (λ c κs. search needs) (λ c. sym (rw (test (c .before) ∙ c .if1 .taken))) (λ c. sym (rw (test (c .before) ∙ c .if1 .left))))

@@ -26,9 +26,6 @@ abbrev μ-loop : tie.MeasureT-loop
 abbrev start : tie.At-loop Inv-loop μ-loop → tie.Start Inv-loop μ-loop
 start l = l .before .before .before
 
-loop-holds : tie.Need-loop-holds Inv-loop μ-loop
-loop-holds c = (omega arith, (refl, λ s k. k))
-
 -- property n lies within the record
 within : (k : tie.In-loop Inv-loop μ-loop) → let s = start (k .before) in 32 + k .before .loop .n * s .args .stride + s .args .stride ≤ length (s .args .delta .now)
 within k = let s = start (k .before) in omega (arith, piece-within (s .args .stride) (k .before .loop .n) 8 (k .loop-test .taken), s .pre .0)
@@ -79,7 +76,7 @@ put-mentions-spec =
     (tie.spec
     Inv-loop
     μ-loop
-    loop-holds
+    (λ c. (omega arith, (refl, λ s k. k)))
     (λ c. omega (arith, within c))
     (λ c. omega (arith, within c))
     (λ c κs. search needs)

@@ -21,9 +21,6 @@ abbrev μ-loop : tie.MeasureT-loop
 abbrev start : tie.At-loop Inv-loop μ-loop → tie.Start Inv-loop μ-loop
 start l = l .before .before .before .before
 
-loop-holds : tie.Need-loop-holds Inv-loop μ-loop
-loop-holds c = (omega arith, λ j h. absurd (omega arith))
-
 -- the byte that is read is the kind of the record that stands there
 read : (c : tie.After-byte Inv-loop μ-loop) → let l = c .before .before .before in
     c .byte .result ≡ kindOf (recordAt (recordSize (strideOf (start l .args .permanent .now))) (l .loop .i) (start l .args .permanent .now))
@@ -59,7 +56,7 @@ front-end-spec =
     (λ c. search needs)
     (λ c κs. search needs)
     (λ c. search needs)
-    loop-holds
+    (λ c. (omega arith, λ j h. absurd (omega arith)))
     (λ c κs. search needs)
     (λ c κs. search needs)
     returns

@@ -18,9 +18,6 @@ Inv-loop begins ends front instant count₀ place₀ i₀ count place i =
 abbrev μ-loop : tie.MeasureT-loop
 μ-loop begins ends front instant count₀ place₀ i₀ count place i = front - i
 
-loop-holds : tie.Need-loop-holds Inv-loop μ-loop
-loop-holds c = (omega arith, (omega arith, (omega arith, held-none _)))
-
 -- what a turn adds
 ones : (c : tie.Joined1 Inv-loop μ-loop) → c .if1 .count ≤ 1
 ones c = ⊎-elim (λ x. omega (arith, x .1)) (λ x. omega (arith, x .1)) (c .if1 .came)
@@ -66,7 +63,7 @@ hold-spec =
     (tie.spec
     Inv-loop
     μ-loop
-    loop-holds
+    (λ c. (omega arith, (omega arith, (omega arith, held-none _))))
     (λ c. omega arith)
     (λ c. omega arith)
     (λ c. omega arith)

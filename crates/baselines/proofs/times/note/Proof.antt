@@ -46,9 +46,6 @@ loop-again c =
     let life = v .life-of .ensures ∙ ap lifeOf r in
     (omega arith, (simp length-set n, (simp length-set w, (simp length-set g, noted-turn p (l .loop .begins) (l .loop .ends) (l .loop .gones) (l .loop .i) _ _ _ (omega arith) (omega arith) (omega arith) all (ap (λ x. x .begin .0) period) (ap (λ x. x .end .0) period) (ap (λ x. x .end .0) life)))))
 
-returns : tie.Need-returns Inv-loop μ-loop
-returns c = λ i h. c .before .loop .inv .1 .1 .1 .1 i (omega arith)
-
 pub note-spec : {M : Type 1} → statement M
 note-spec =
     tie.close
@@ -76,4 +73,4 @@ note-spec =
     (λ c. search needs)
     (λ c. search needs)
     (λ c. search needs)
-    returns)
+    (λ c. λ i h. c .before .loop .inv .1 .1 .1 .1 i (omega arith)))

@@ -16,9 +16,6 @@ Inv-loop times count since best soonest₀ i₀ soonest i = (i ≤ count) × ((s
 abbrev μ-loop : tie.MeasureT-loop
 μ-loop times count since best soonest₀ i₀ soonest i = count - i
 
-loop-holds : tie.Need-loop-holds Inv-loop μ-loop
-loop-holds c = (omega arith, (c .before .pre .1, least-none _ _ _))
-
 loop-again : tie.Need-loop-again Inv-loop μ-loop
 loop-again c =
     let w = c .before in
@@ -42,7 +39,7 @@ soonest-of-spec =
     (tie.spec
     Inv-loop
     μ-loop
-    loop-holds
+    (λ c. (omega arith, (c .before .pre .1, least-none _ _ _)))
     (λ c. search needs)
     (λ c. search needs)
     (λ c κs. search needs)

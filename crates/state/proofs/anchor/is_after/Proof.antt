@@ -3,7 +3,6 @@ use Rattle.laws.specs.Orders.{lexLess}
 use Rattle.numbers.specs.Numbers.{numbers}
 use Rattle.state.specs.Steps.{afterStart}
 use borrow.Author.Needs.{needs}
-use borrow.Author.Needs.{needs}
 use Rattle.state.proofs.anchor.is_after.Statement.{statement}
 use Rattle.state.proofs.anchor.is_after.Tie as tie
 

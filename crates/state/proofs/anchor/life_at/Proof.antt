@@ -8,7 +8,6 @@ use Rattle.slice.specs.Record.{lifeOf}
 use Rattle.table.specs.Header.{recordAt}
 use Rattle.state.specs.Steps.{lifeAt}
 use borrow.Author.Needs.{needs}
-use borrow.Author.Needs.{needs}
 use Rattle.state.proofs.anchor.life_at.Statement.{statement}
 use Rattle.state.proofs.anchor.life_at.Tie as tie
 
@@ -21,9 +20,6 @@ returns c =
     let a = c .before .before .before .before .args in
     ap₂ (λ (b e : Instant). record { begin = b; end = e }) (c .before .none .ensures) (c .none2 .ensures) ∙ ap (lifeAt (a .size) (a .permanent .now)) (sym (c .before .before .if1 .taken))
 
-returns-2 : tie.Need-returns-2
-returns-2 c = c .life-of .ensures ∙ (ap lifeOf (c .before .record-at .ensures .0) ∙ given-life _ _ _ (c .before .before .if1 .left))
-
 pub life-at-spec : {M : Type 1} → statement M
 life-at-spec =
     tie.close
@@ -34,4 +30,4 @@ life-at-spec =
     (λ c. search needs)
     (λ c κs. search needs)
     (λ c κs. search needs)
-    returns-2)
+    (λ c. c .life-of .ensures ∙ (ap lifeOf (c .before .record-at .ensures .0) ∙ given-life _ _ _ (c .before .before .if1 .left))))

@@ -4,7 +4,6 @@ use mathlib.Core.Bool.{not, _&&_}
 use lib.Dec.{eqb}
 use Rattle.state.proofs.Marks.{origin-mark, origin-anchor, origin-none}
 use borrow.Author.Needs.{needs}
-use borrow.Author.Needs.{needs}
 use Rattle.state.proofs.anchor.origin.Statement.{statement}
 use Rattle.state.proofs.anchor.origin.Tie as tie
 

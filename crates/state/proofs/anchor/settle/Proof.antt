@@ -2,7 +2,6 @@
 use mathlib.Core.Path.{_∙_}
 use Rattle.state.proofs.Anchors.{one-below, none-found, one-opened, two-opened, one-based, two-based}
 use borrow.Author.Needs.{needs}
-use borrow.Author.Needs.{needs}
 use Rattle.state.proofs.anchor.settle.Statement.{statement}
 use Rattle.state.proofs.anchor.settle.Tie as tie
 
@@ -16,21 +15,6 @@ begun-requires-2 c κs =
     let s = c .before .before .before .before .before in
     (s .pre .0, (s .pre .1 .0, one-below _ _ _ (c .before .bases .given .1) (s .pre .1 .1 .0)))
 
-returns : tie.Need-returns
-returns c = none-found _ _ _ _ _ (c .before .before .enum-told .given .1) (c .enum-told2 .given .1)
-
-returns-2 : tie.Need-returns-2
-returns-2 c = c .begun .ensures ∙ one-opened _ _ _ _ _ _ (c .before .before .before .before .enum-told .given .1) (c .before .before .openings .given .1)
-
-returns-3 : tie.Need-returns-3
-returns-3 c = two-opened _ _ _ _ _ (c .before .before .enum-told .given .1) (c .enum-told3 .given .1)
-
-returns-4 : tie.Need-returns-4
-returns-4 c = c .begun2 .ensures ∙ one-based _ _ _ _ _ _ (c .before .before .bases .given .1)
-
-returns-5 : tie.Need-returns-5
-returns-5 c = two-based _ _ _ _ _ (c .enum-told4 .given .1)
-
 pub settle-spec : {M : Type 1} → statement M
 settle-spec =
     tie.close
@@ -43,8 +27,8 @@ settle-spec =
     (λ c. search needs)
     begun-requires-2
     (λ c. search needs)
-    returns
-    returns-2
-    returns-3
-    returns-4
-    returns-5)
+    (λ c. none-found _ _ _ _ _ (c .before .before .enum-told .given .1) (c .enum-told2 .given .1))
+    (λ c. c .begun .ensures ∙ one-opened _ _ _ _ _ _ (c .before .before .before .before .enum-told .given .1) (c .before .before .openings .given .1))
+    (λ c. two-opened _ _ _ _ _ (c .before .before .enum-told .given .1) (c .enum-told3 .given .1))
+    (λ c. c .begun2 .ensures ∙ one-based _ _ _ _ _ _ (c .before .before .bases .given .1))
+    (λ c. two-based _ _ _ _ _ (c .enum-told4 .given .1)))

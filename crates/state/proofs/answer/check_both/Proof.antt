@@ -9,7 +9,6 @@ use Rattle.table.specs.declared.check.Sides.the-variants as sides
 use Rattle.table.proofs.Sound.{sound-table}
 use Rattle.state.proofs.Stages.{both-first, both-second, both-last}
 use borrow.Author.Needs.{needs}
-use borrow.Author.Needs.{needs}
 use Rattle.state.proofs.answer.check_both.Statement.{statement}
 use Rattle.state.proofs.answer.check_both.Tie as tie
 
@@ -18,9 +17,6 @@ first c = sym (c .before .before .check-table .ensures) ∙ c .enum-told .given 
 
 second : (c : tie.After-enum-told2) → checkTable sides.Temporary (c .before .before .before .before .before .before .before .before .args .temporary .now) ≡ Sound
 second c = sym (c .before .before .check-table2 .ensures) ∙ c .enum-told2 .given .1
-
-returns : tie.Need-returns
-returns c = both-first _ _ _ (sym (c .before .before .before .check-table .ensures) ∙ c .before .refusal .given .1)
 
 returns-2 : tie.Need-returns-2
 returns-2 c = both-second _ _ (first (c .before .before .before .before)) _ (sym (c .before .before .before .check-table2 .ensures) ∙ c .before .refusal2 .given .1)
@@ -43,7 +39,7 @@ check-both-spec =
     (tie.spec
     (λ c κs. search needs)
     (λ c. search needs)
-    returns
+    (λ c. both-first _ _ _ (sym (c .before .before .before .check-table .ensures) ∙ c .before .refusal .given .1))
     (λ c. search needs)
     (λ c κs. search needs)
     (λ c. search needs)

@@ -13,12 +13,6 @@ use Rattle.state.proofs.answer.permanent_state.Tie as tie
 sound : (c : tie.After-enum-told) → checkTable sides.Permanent (c .before .before .before .before .before .args .permanent .now) ≡ Sound
 sound c = sym (c .before .before .check-table .ensures) ∙ c .enum-told .given .1
 
-returns : tie.Need-returns
-returns c = (state-refused _ _ _ _ (sym (c .before .before .before .check-table .ensures) ∙ c .before .refusal .given .1), refl)
-
-write-state-requires : tie.Need-write-state-requires
-write-state-requires c κs = (sound-table sides.Permanent _ (sound (c .before)) .roomy, sound-rising _ sides.Permanent (sound (c .before)))
-
 returns-2 : tie.Need-returns-2
 returns-2 c =
     let w = c .before .before .write-state .ensures in
@@ -27,4 +21,4 @@ returns-2 c =
 pub permanent-state-spec : {M : Type 1} → statement M
 permanent-state-spec =
     tie.close
-    (tie.spec (λ c κs. search needs) (λ c. search needs) returns (λ c. search needs) write-state-requires (λ c. search needs) returns-2)
+    (tie.spec (λ c κs. search needs) (λ c. search needs) (λ c. (state-refused _ _ _ _ (sym (c .before .before .before .check-table .ensures) ∙ c .before .refusal .given .1), refl)) (λ c. search needs) (λ c κs. (sound-table sides.Permanent _ (sound (c .before)) .roomy, sound-rising _ sides.Permanent (sound (c .before)))) (λ c. search needs) returns-2)

@@ -25,7 +25,6 @@ use Rattle.state.proofs.Settled.{few-below, wanted-in, wanted-end, know
 use Rattle.state.proofs.Filled.{snapshot-filled}
 use Rattle.state.proofs.Stages.{both-sound, snapshot-refused, snapshot-left, left-none, left-misfit, left-asked}
 use borrow.Author.Needs.{needs}
-use borrow.Author.Needs.{needs}
 use Rattle.state.proofs.answer.snapshot.Statement.{statement}
 use Rattle.state.proofs.answer.snapshot.Tie as tie
 
@@ -84,9 +83,6 @@ laid : (c : tie.After-enum-told) (s : Standing) → permanentAt (c .before .befo
 unfolding snapshotAt
 laid c s e = ap (overlaid (passing (c .before .before .before .before .before .before .args .instant) (slicesOf (other c)))) e
 
-returns : tie.Need-returns
-returns c = (snapshot-refused _ _ _ _ _ (sym (c .before .before .before .check-both .ensures) ∙ c .before .refusal .given .1), refl)
-
 returns-2 : tie.Need-returns-2
 returns-2 c =
     let a = c .before .before .before .before .before .before .before .before .args in
@@ -97,16 +93,10 @@ returns-3 c =
     let a = c .before .before .before .before .before .before .before .before .before .before .args in
     (left-misfit _ _ _ (snapshotAt (a .instant) (slicesOf (a .permanent .now)) (slicesOf (a .temporary .now))) (sym (c .before .before .before .is-none .ensures) ∙ c .before .before .if1 .left) (λ e. c .if2 .taken (e ∙ sym (ap recordSize (c .before .stride-of .ensures)))) ∙ snapshot-left _ _ _ _ (checked (c .before .before .before .before)), refl)
 
-survey-permanent-requires : tie.Need-survey-permanent-requires
-survey-permanent-requires c κs = (roomy (c .before .before .before .before), (up (c .before .before .before .before), (omega arith, omega arith)))
-
 settle-requires : tie.Need-settle-requires
 settle-requires c κs =
     let s = c .survey-permanent in
     (s .ensures .1 .1 .0, (roomy (c .before .before .before .before .before), (rw (s .ensures .0) (few-below (stands (slicesOf (table (c .before .before .before .before .before))) (c .before .before .before .before .before .before .before .before .before .before .before .args .instant)) (table (c .before .before .before .before .before))), rw (s .ensures .1 .0) (few-below (opensDue (since c) (c .before .before .before .before .before .before .before .before .before .before .before .args .instant)) (table (c .before .before .before .before .before))))))
-
-overlay-requires : tie.Need-overlay-requires
-overlay-requires c κs = roomy2 (c .before .before .before .before .before .before .before .before .before .before)
 
 put-state-requires : tie.Need-put-state-requires
 put-state-requires c κs =
@@ -155,7 +145,7 @@ snapshot-spec =
     (tie.spec
     (λ c κs. search needs)
     (λ c. search needs)
-    returns
+    (λ c. (snapshot-refused _ _ _ _ _ (sym (c .before .before .before .check-both .ensures) ∙ c .before .refusal .given .1), refl))
     (λ c. search needs)
     (λ c κs. search needs)
     returns-2
@@ -163,11 +153,11 @@ snapshot-spec =
     (λ c. search needs)
     (λ c. search needs)
     returns-3
-    survey-permanent-requires
+    (λ c κs. (roomy (c .before .before .before .before), (up (c .before .before .before .before), (omega arith, omega arith))))
     settle-requires
     (λ c. search needs)
     (λ c. search needs)
-    overlay-requires
+    (λ c κs. roomy2 (c .before .before .before .before .before .before .before .before .before .before))
     put-state-requires
     returns-4
     (λ c. search needs)

@@ -12,9 +12,6 @@ use Rattle.state.proofs.answer.state_at.Tie as tie
 sound : (c : tie.After-enum-told) → checkOrder (c .before .before .before .before .before .args .permanent .now) ≡ Sound
 sound c = sym (c .before .before .check-order .ensures) ∙ c .enum-told .given .1
 
-returns : tie.Need-returns
-returns c = (order-refused _ _ _ _ (sym (c .before .before .before .check-order .ensures) ∙ c .before .refusal .given .1), refl)
-
 write-state-requires : tie.Need-write-state-requires
 write-state-requires c κs = let s = order-sound _ (sound (c .before)) in (s .0, slices-rising _ (s .1))
 
@@ -26,4 +23,4 @@ returns-2 c =
 pub state-at-spec : {M : Type 1} → statement M
 state-at-spec =
     tie.close
-    (tie.spec (λ c κs. search needs) (λ c. search needs) returns (λ c. search needs) write-state-requires (λ c. search needs) returns-2)
+    (tie.spec (λ c κs. search needs) (λ c. search needs) (λ c. (order-refused _ _ _ _ (sym (c .before .before .before .check-order .ensures) ∙ c .before .refusal .given .1), refl)) (λ c. search needs) write-state-requires (λ c. search needs) returns-2)

@@ -57,9 +57,6 @@ begun c =
     let s = start (k .before) in
     subst (Settled (since k) (s .args .instant) (table s)) (c .start .given .1) (stood (c .before .before))
 
-returns : tie.Need-returns
-returns c = (left-none _ _ _ (standing (c .before .before .before .before)) (sym (c .before .is-none .ensures) ∙ c .if1 .taken), refl)
-
 returns-2 : tie.Need-returns-2
 returns-2 c =
     let s = c .before .before .before .before .before .before in
@@ -121,7 +118,7 @@ write-state-spec =
     tie.close
     (tie.spec
     (λ c κs. search needs)
-    returns
+    (λ c. (left-none _ _ _ (standing (c .before .before .before .before)) (sym (c .before .is-none .ensures) ∙ c .if1 .taken), refl))
     (λ c κs. search needs)
     (λ c. search needs)
     (λ c. search needs)

@@ -6,7 +6,6 @@ use Rattle.slice.specs.Record.{viewOf}
 use Rattle.history.specs.Parts.{tells}
 use Rattle.state.proofs.Views.{tells-begin, tells-end}
 use borrow.Author.Needs.{needs}
-use borrow.Author.Needs.{needs}
 use Rattle.state.proofs.mention.gives.Statement.{statement}
 use Rattle.state.proofs.mention.gives.Tie as tie
 

@@ -7,7 +7,6 @@ use Rattle.laws.specs.Orders.{lexLess}
 use Rattle.numbers.specs.Numbers.{numbers}
 use Rattle.state.proofs.Marks.{behind, later-not, later-new, later-old}
 use borrow.Author.Needs.{needs}
-use borrow.Author.Needs.{needs}
 use Rattle.state.proofs.mention.later.Statement.{statement}
 use Rattle.state.proofs.mention.later.Tie as tie
 
@@ -15,9 +14,6 @@ use Rattle.state.proofs.mention.later.Tie as tie
 told : (c : tie.After-precedes2) → (c .before .before .precedes .result || (c .before .is .result && c .precedes2 .result)) ≡ behind (c .before .before .before .before .before .before .before .before .args .old) (c .before .before .before .before .before .before .before .before .args .new)
 unfolding lexLess numbers
 told c = rw (c .before .before .precedes .ensures, c .before .is .ensures, c .precedes2 .ensures)
-
-returns : tie.Need-returns
-returns c = later-not _ _ _ (not-true _ (c .if1 .taken))
 
 returns-2 : tie.Need-returns-2
 returns-2 c = later-new _ _ _ (not-false _ (c .before .before .before .before .before .before .before .before .before .if1 .left)) (ap (λ b. eqb (c .before .before .before .before .before .before .before .before .before .before .args .old .from) 0 || b) (sym (told (c .before .before))) ∙ c .if2 .taken)
@@ -28,4 +24,4 @@ returns-3 c = later-old _ _ _ (not-false _ (c .before .before .before .before .b
 pub later-spec : {M : Type 1} → statement M
 later-spec =
     tie.close
-    (tie.spec returns (λ c κs. search needs) (λ c κs. search needs) (λ c κs. search needs) returns-2 returns-3)
+    (tie.spec (λ c. later-not _ _ _ (not-true _ (c .if1 .taken))) (λ c κs. search needs) (λ c κs. search needs) (λ c κs. search needs) returns-2 returns-3)

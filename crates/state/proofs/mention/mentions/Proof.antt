@@ -3,7 +3,6 @@ use native.Mathlib.Omega.{arith}
 use Rattle.laws.proofs.Pieces.{piece-within}
 use Rattle.state.proofs.Views.{tells-property}
 use borrow.Author.Needs.{needs}
-use borrow.Author.Needs.{needs}
 use Rattle.state.proofs.mention.mentions.Statement.{statement}
 use Rattle.state.proofs.mention.mentions.Tie as tie
 
@@ -17,8 +16,5 @@ add-byte c =
     let a = c .before .args in
     omega (arith, piece-within (a .stride) (a .n) 8 (c .before .pre .1))
 
-returns : tie.Need-returns
-returns c = rw (c .byte .ensures) (tells-property _ _ _ (c .before .before .pre .1) (c .before .before .pre .0))
-
 pub mentions-spec : {M : Type 1} → statement M
-mentions-spec = tie.close (tie.spec mul-byte add-byte (λ c κs. search needs) returns)
+mentions-spec = tie.close (tie.spec mul-byte add-byte (λ c κs. search needs) (λ c. rw (c .byte .ensures) (tells-property _ _ _ (c .before .before .pre .1) (c .before .before .pre .0))))

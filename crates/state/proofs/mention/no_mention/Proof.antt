@@ -11,8 +11,5 @@ none-at zero q = refl
 none-at (suc n) zero = refl
 none-at (suc n) (suc q) = none-at n q
 
-returns : tie.Need-returns
-returns c = (refl, none-at 10)
-
 pub no-mention-spec : {M : Type 1} → statement M
-no-mention-spec = tie.close (tie.spec returns)
+no-mention-spec = tie.close (tie.spec (λ c. (refl, none-at 10)))

@@ -14,7 +14,7 @@ use Rattle.history.specs.Parts.{tells, latestWith, latestValid}
 use Rattle.state.specs.Asking.{slicesOf}
 use Rattle.state.specs.Steps.{placeAndOne, holding}
 use Rattle.state.proofs.Slices.{slices-at, slices-end}
-use Rattle.state.proofs.Walks.{place-most, read-by, seen-by, sized-by}
+use Rattle.state.proofs.Walks.{Read, read-here}
 use Rattle.state.proofs.Marks.{Noted, noted-start, noted-turn, noted-end, place-turn, Keeps, keeps-turn, keeps-past, keeps-end, latest-past}
 use Rattle.state.proofs.Settled.{among-in}
 use Rattle.state.proofs.Views.{valid-holding}
@@ -35,77 +35,49 @@ abbrev μ-loop : tie.MeasureT-loop
 μ-loop temporary instant stride size count places₀ i₀ places i = count - i
 
 -- the record that a turn looks at, and the slice that it says
-abbrev table : tie.After-record-at Inv-loop2 μ-loop2 Inv-loop μ-loop → List ℕ
-table k = k .before .before .before .before .before .before .args .temporary .now
+module _ (k : tie.After-record-at Inv-loop2 μ-loop2 Inv-loop μ-loop) where
+  abbrev start : tie.Start Inv-loop2 μ-loop2 Inv-loop μ-loop
+  start = k .before .before .before .before .before .before
 
-abbrev place : tie.After-record-at Inv-loop2 μ-loop2 Inv-loop μ-loop → ℕ
-place k = k .before .before .loop .i
+  abbrev table : List ℕ
+  table = start .args .temporary .now
 
-below : (k : tie.After-record-at Inv-loop2 μ-loop2 Inv-loop μ-loop) → place k < countOf (table k)
-below k = omega arith
+  abbrev stride : ℕ
+  stride = k .before .before .before .before .stride-of .result
 
-read : (k : tie.After-record-at Inv-loop2 μ-loop2 Inv-loop μ-loop) → k .record-at .result .now ≡ recordAt (recordSize (strideOf (table k))) (place k) (table k)
-read k = read-by (table k) (place k) (k .before .before .before .before .stride-of .ensures) (k .record-at .ensures .0)
+  abbrev place : ℕ
+  place = k .before .before .loop .i
 
-abbrev here : tie.After-record-at Inv-loop2 μ-loop2 Inv-loop μ-loop → Slice
-here k = viewOf (strideOf (table k)) (recordAt (recordSize (strideOf (table k))) (place k) (table k))
+  abbrev here : Slice
+  here = viewOf (strideOf table) (recordAt (recordSize (strideOf table)) place table)
 
-seen : (k : tie.After-record-at Inv-loop2 μ-loop2 Inv-loop μ-loop) → viewOf (k .before .before .before .before .stride-of .result) (k .record-at .result .now) ≡ here k
-seen k = seen-by (table k) (place k) (k .before .before .before .before .stride-of .ensures) (read k)
+  -- a property's place, with this record's where it mentions it
+  abbrev step : ℕ → ℕ → ℕ
+  step q m = cond (tells q (viewOf stride (k .record-at .result .now))) (place + 1) m
 
-sized : (k : tie.After-record-at Inv-loop2 μ-loop2 Inv-loop μ-loop) → length (k .record-at .result .now) ≡ recordSize (k .before .before .before .before .stride-of .result)
-sized k = sized-by (table k) (place k) (k .before .before .before .before .stride-of .ensures) (read k) (k .before .before .before .before .before .before .pre) (below k)
+  below : place < countOf table
+  below = omega arith
 
-next : (k : tie.After-record-at Inv-loop2 μ-loop2 Inv-loop μ-loop) → drop (place k) (slicesOf (table k)) ≡ here k ∷ drop (place k + 1) (slicesOf (table k))
-next k = slices-at (table k) (place k) (below k) (k .before .before .before .before .before .before .pre)
+  read : Read table place stride (k .record-at .result .now)
+  read = read-here table place (k .before .before .before .before .stride-of .ensures) (k .record-at .ensures .0) (start .pre) below
 
-told : (v : tie.After-is-holding Inv-loop2 μ-loop2 Inv-loop μ-loop) → v .is-holding .result ≡ valid (v .before .before .before .before .before .before .before .args .instant) (here (v .before))
-told v = v .is-holding .ensures (strideOf (table (v .before))) ∙ (ap (λ r. holding tempdelta (v .before .before .before .before .before .before .before .args .instant) (viewOf (strideOf (table (v .before))) r)) (read (v .before)) ∙ valid-holding (v .before .before .before .before .before .before .before .args .instant) (here (v .before)))
+  next : drop place (slicesOf table) ≡ here ∷ drop (place + 1) (slicesOf table)
+  next = slices-at table place below (start .pre)
+
+told : (v : tie.After-is-holding Inv-loop2 μ-loop2 Inv-loop μ-loop) → v .is-holding .result ≡ valid (start (v .before) .args .instant) (here (v .before))
+told v =
+    let k = v .before in
+    let t = start k .args .instant in
+    v .is-holding .ensures (strideOf (table k)) ∙ (ap (λ r. holding tempdelta t (viewOf (strideOf (table k)) r)) (read k .is) ∙ valid-holding t (here k))
 
 loop-holds : tie.Need-loop-holds Inv-loop2 μ-loop2 Inv-loop μ-loop
 unfolding latestValid
-loop-holds c =
-    let a = c .before .before .before .args in
-    (omega arith, (refl, λ q h. (none, getD-replicate 8 q 0 0 h, refl)))
+loop-holds c = (omega arith, (refl, λ q h. (none, getD-replicate 8 q 0 0 h, refl)))
 
 loop2-holds : tie.Need-loop2-holds Inv-loop2 μ-loop2 Inv-loop μ-loop
 loop2-holds c =
     let k = c .before .before in
-    (omega arith, (c .before .before .before .before .loop .inv .1 .0, noted-start 0 0 (λ q n. cond (tells q (viewOf (k .before .before .before .before .stride-of .result) (k .record-at .result .now))) (place k + 1) n) (c .before .before .before .before .loop .places)))
-
-mul-before : tie.Need-mul-before Inv-loop2 μ-loop2 Inv-loop μ-loop
-mul-before c =
-    omega arith
-
-array-read-before : tie.Need-array-read-before Inv-loop2 μ-loop2 Inv-loop μ-loop
-array-read-before c =
-    omega arith
-
-mentions-requires : tie.Need-mentions-requires Inv-loop2 μ-loop2 Inv-loop μ-loop
-mentions-requires c κs =
-    let k = c .before .before .before .before in
-    (sized k, omega arith)
-
-add-places : tie.Need-add-places Inv-loop2 μ-loop2 Inv-loop μ-loop
-add-places c =
-    let k = c .before .before .before .before .before .before in
-    omega (arith, place-most (table k) (k .before .before .before .before .before .before .pre) (place k) (below k))
-
-mul-places : tie.Need-mul-places Inv-loop2 μ-loop2 Inv-loop μ-loop
-mul-places c =
-    omega arith
-
-array-write-places : tie.Need-array-write-places Inv-loop2 μ-loop2 Inv-loop μ-loop
-array-write-places c =
-    omega arith
-
-add-n : tie.Need-add-n Inv-loop2 μ-loop2 Inv-loop μ-loop
-add-n c =
-    omega arith
-
-loop2-less : tie.Need-loop2-less Inv-loop2 μ-loop2 Inv-loop μ-loop
-loop2-less c =
-    omega arith
+    (omega arith, (k .before .before .loop .inv .1 .0, noted-start 0 0 (step k) (k .before .before .loop .places)))
 
 loop2-again : tie.Need-loop2-again Inv-loop2 μ-loop2 Inv-loop μ-loop
 loop2-again c =
@@ -116,7 +88,7 @@ loop2-again c =
       omega arith,
       (
         length-set ms n (c .if2 .places) ∙ l .loop2 .inv .1 .0,
-        noted-turn 0 0 (λ q m. cond (tells q (viewOf (k .before .before .before .before .stride-of .result) (k .record-at .result .now))) (place k + 1) m) (k .before .before .loop .places) ms n (c .if2 .places) (omega arith) (omega (arith, l .loop2 .inv .1 .0)) (l .loop2 .inv .1 .1)
+        noted-turn 0 0 (step k) (k .before .before .loop .places) ms n (c .if2 .places) (omega arith) (omega (arith, l .loop2 .inv .1 .0)) (l .loop2 .inv .1 .1)
             (⊎-elim
             (λ x. x .1 ∙ ap (λ b. cond b (place k + 1) (getD ms n 0)) (sym (x .0 .taken) ∙ c .before .mentions .ensures))
             (λ x. x .1 ∙ ap (λ b. cond b (place k + 1) (getD ms n 0)) (sym (x .0 .left) ∙ c .before .mentions .ensures))
@@ -124,15 +96,11 @@ loop2-again c =
       ),
     )
 
-loop-less : tie.Need-loop-less Inv-loop2 μ-loop2 Inv-loop μ-loop
-loop-less c =
-    omega arith
-
 loop-again : tie.Need-loop-again Inv-loop2 μ-loop2 Inv-loop μ-loop
 loop-again c =
     let k = c .before .before in
-    let t = c .before .before .before .before .before .before .before .before .args .instant in
-    let l = c .before .before .before .before .loop in (
+    let t = start k .args .instant in
+    let l = k .before .before .loop in (
       omega arith,
       ⊎-elim
           (λ x. (
@@ -142,8 +110,8 @@ loop-again c =
                 (λ m. cond (tells q (here k)) (place k + 1) m)
                 (place-turn (valid t) q (place k) (here k) (sym (told (c .before)) ∙ x .0 .taken))
                 (ap (λ (z : List ℕ). getD z q 0) (x .3)
-                ∙ (noted-end 0 0 (λ q m. cond (tells q (viewOf (k .before .before .before .before .stride-of .result) (k .record-at .result .now))) (place k + 1) m) (l .places) (x .1 .places) (x .1 .n) 8 q (x .1 .inv .0) (x .2 .left) (among-in 0 8 q (omega arith) h) (x .1 .inv .1 .1)
-                ∙ ap (λ (d : Slice). cond (tells q d) (place k + 1) (getD (l .places) q 0)) (seen k)))
+                ∙ (noted-end 0 0 (step k) (l .places) (x .1 .places) (x .1 .n) 8 q (x .1 .inv .0) (x .2 .left) (among-in 0 8 q (omega arith) h) (x .1 .inv .1 .1)
+                ∙ ap (λ (d : Slice). cond (tells q d) (place k + 1) (getD (l .places) q 0)) (read k .seen)))
                 (l .inv .1 .1 q h),
           ))
           (λ x. (
@@ -180,16 +148,16 @@ overlay-spec =
     (λ c κs. search needs)
     (λ c κs. search needs)
     loop2-holds
-    mul-before
-    array-read-before
-    mentions-requires
-    add-places
-    mul-places
-    array-write-places
-    add-n
-    loop2-less
+    (λ c. omega arith)
+    (λ c. omega arith)
+    (λ c κs. (read (c .before .before .before .before) .sized, omega arith))
+    (λ c. omega (arith, read (c .before .before .before .before .before .before) .small))
+    (λ c. omega arith)
+    (λ c. omega arith)
+    (λ c. omega arith)
+    (λ c. omega arith)
     loop2-again
     (λ c. search needs)
-    loop-less
+    (λ c. omega arith)
     loop-again
     returns)

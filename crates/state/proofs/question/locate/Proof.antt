@@ -28,7 +28,6 @@ use Rattle.state.proofs.Settled.{few-below, wanted-in, wanted-end, know
 use Rattle.state.proofs.Placed.{placed-is}
 use Rattle.state.proofs.Stages.{both-sound, place-refused, place-none, place-left}
 use borrow.Author.Needs.{needs}
-use borrow.Author.Needs.{needs}
 use Rattle.state.proofs.question.locate.Statement.{statement}
 use Rattle.state.proofs.question.locate.Tie as tie
 
@@ -80,34 +79,10 @@ stood c =
 begun : (c : tie.After-start) → Begun (since (c .before .before .before)) (c .before .before .before .before .before .before .before .before .before .before .before .args .instant) (table (c .before .before .before .before .before .before)) (c .start .given .0 .0)
 begun c = subst (Settled (since (c .before .before .before)) (c .before .before .before .before .before .before .before .before .before .before .before .args .instant) (table (c .before .before .before .before .before .before))) (c .start .given .1) (stood (c .before .before))
 
-returns : tie.Need-returns
-returns c = place-refused _ _ _ _ _ (sym (c .before .before .before .check-both .ensures) ∙ c .before .refusal .given .1)
-
-returns-2 : tie.Need-returns-2
-returns-2 c = place-none _ _ _ _ (checked (c .before .before)) (sym (test (c .before)) ∙ c .if1 .taken)
-
-survey-permanent-requires : tie.Need-survey-permanent-requires
-survey-permanent-requires c κs = (roomy (c .before .before), (up (c .before .before), (omega arith, omega (arith, small c))))
-
 settle-requires : tie.Need-settle-requires
 settle-requires c κs =
     let s = c .survey-permanent in
     (s .ensures .1 .1 .0, (roomy (c .before .before .before), (rw (s .ensures .0) (few-below (stands (slicesOf (table (c .before .before .before))) (c .before .before .before .before .before .before .before .before .args .instant)) (table (c .before .before .before))), rw (s .ensures .1 .0) (few-below (opensDue (since c) (c .before .before .before .before .before .before .before .before .args .instant)) (table (c .before .before .before))))))
-
-overlay-requires : tie.Need-overlay-requires
-overlay-requires c κs = roomy2 (c .before .before .before .before .before .before .before .before)
-
-mul-under : tie.Need-mul-under
-mul-under c = omega (arith, small (c .before .before .before .before .before .before .before))
-
-element-copy-out-under : tie.Need-element-copy-out-under
-element-copy-out-under c = omega (arith, small (c .before .before .before .before .before .before .before))
-
-mul-over : tie.Need-mul-over
-mul-over c = omega (arith, small (c .before .before .before .before .before .before .before .before))
-
-array-read-over : tie.Need-array-read-over
-array-read-over c = omega (arith, small (c .before .before .before .before .before .before .before .before))
 
 placed-requires : tie.Need-placed-requires
 placed-requires c κs =
@@ -150,20 +125,20 @@ locate-spec =
     (tie.spec
     (λ c κs. search needs)
     (λ c. search needs)
-    returns
+    (λ c. place-refused _ _ _ _ _ (sym (c .before .before .before .check-both .ensures) ∙ c .before .refusal .given .1))
     (λ c. search needs)
     (λ c κs. search needs)
-    returns-2
+    (λ c. place-none _ _ _ _ (checked (c .before .before)) (sym (test (c .before)) ∙ c .if1 .taken))
     (λ c. search needs)
-    survey-permanent-requires
+    (λ c κs. (roomy (c .before .before), (up (c .before .before), (omega arith, omega (arith, small c)))))
     settle-requires
     (λ c. search needs)
     (λ c. search needs)
-    overlay-requires
-    mul-under
-    element-copy-out-under
-    mul-over
-    array-read-over
+    (λ c κs. roomy2 (c .before .before .before .before .before .before .before .before))
+    (λ c. omega (arith, small (c .before .before .before .before .before .before .before)))
+    (λ c. omega (arith, small (c .before .before .before .before .before .before .before)))
+    (λ c. omega (arith, small (c .before .before .before .before .before .before .before .before)))
+    (λ c. omega (arith, small (c .before .before .before .before .before .before .before .before)))
     placed-requires
     returns-3
     returns-4)

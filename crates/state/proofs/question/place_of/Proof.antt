@@ -5,31 +5,12 @@ use native.Mathlib.Nat.{mul-le-mul-right}
 use native.Mathlib.Omega.{arith}
 use Rattle.laws.proofs.Pieces.{piece-within}
 use borrow.Author.Needs.{needs}
-use borrow.Author.Needs.{needs}
 use Rattle.state.proofs.question.place_of.Statement.{statement}
 use Rattle.state.proofs.question.place_of.Tie as tie
 
 -- the record's part of the place
 few : (c : tie.After-stride-of) → (c .before .before .args .from - 1) * (32 + 8 * c .stride-of .result) ≤ 256 * (32 + 8 * c .stride-of .result)
 few c = mul-le-mul-right (32 + 8 * c .stride-of .result) (omega arith)
-
-mul-result : tie.Need-mul-result
-mul-result c = omega (arith, few c)
-
-add-result : tie.Need-add-result
-add-result c = omega (arith, few c)
-
-add-result-2 : tie.Need-add-result-2
-add-result-2 c = omega (arith, few c)
-
-mul-result-2 : tie.Need-mul-result-2
-mul-result-2 c = omega (arith, piece-within (c .stride-of .result) (c .before .before .args .n) 8 (c .before .before .pre .1 .1))
-
-add-result-3 : tie.Need-add-result-3
-add-result-3 c = omega (arith, few c, piece-within (c .stride-of .result) (c .before .before .args .n) 8 (c .before .before .pre .1 .1))
-
-returns : tie.Need-returns
-returns c = ap (λ (s : ℕ). 32 + (c .before .before .args .from - 1) * (32 + 8 * s) + 32 + c .before .before .args .n * s) (c .stride-of .ensures)
 
 pub place-of-spec : {M : Type 1} → statement M
 place-of-spec =
@@ -39,9 +20,9 @@ place-of-spec =
     (λ c. search needs)
     (λ c. search needs)
     (λ c. search needs)
-    mul-result
-    add-result
-    add-result-2
-    mul-result-2
-    add-result-3
-    returns)
+    (λ c. omega (arith, few c))
+    (λ c. omega (arith, few c))
+    (λ c. omega (arith, few c))
+    (λ c. omega (arith, piece-within (c .stride-of .result) (c .before .before .args .n) 8 (c .before .before .pre .1 .1)))
+    (λ c. omega (arith, few c, piece-within (c .stride-of .result) (c .before .before .args .n) 8 (c .before .before .pre .1 .1)))
+    (λ c. ap (λ (s : ℕ). 32 + (c .before .before .args .from - 1) * (32 + 8 * s) + 32 + c .before .before .args .n * s) (c .stride-of .ensures)))

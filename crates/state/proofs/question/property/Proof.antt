@@ -10,7 +10,6 @@ use Rattle.state.specs.Asking.{partOf, handed}
 use Rattle.state.specs.declared.question.Place.{Place}
 use Rattle.state.proofs.Placed.{permanent-within, temporary-within}
 use borrow.Author.Needs.{needs}
-use borrow.Author.Needs.{needs}
 use Rattle.state.proofs.question.property.Statement.{statement}
 use Rattle.state.proofs.question.property.Tie as tie
 
@@ -23,18 +22,6 @@ within c = permanent-within _ (c .before .before .before .before .before .before
 
 within2 : (c : tie.After-stride-of2) → c .before .before .at2 .given .0 .0 + strideOf (c .before .before .before .before .before .before .before .args .temporary .now) ≤ length (c .before .before .before .before .before .before .before .args .temporary .now)
 within2 c = temporary-within (c .before .before .before .before .before .before .before .args .permanent .now) _ (c .before .before .before .before .before .before .before .args .instant) (c .before .before .before .before .before .before .before .args .property) _ (sym (c .before .before .before .before .locate .ensures) ∙ c .before .before .at2 .given .1)
-
-add-result : tie.Need-add-result
-add-result c = omega (arith, within c, c .stride-of .ensures)
-
-part-result-end : tie.Need-part-result-end
-part-result-end c = omega (arith, within c, c .stride-of .ensures)
-
-add-result-2 : tie.Need-add-result-2
-add-result-2 c = omega (arith, within2 c, c .stride-of2 .ensures)
-
-part-result-end-2 : tie.Need-part-result-end-2
-part-result-end-2 c = omega (arith, within2 c, c .stride-of2 .ensures)
 
 returns : tie.Need-returns
 returns c =
@@ -63,16 +50,16 @@ property-spec =
     (λ c κs. search needs)
     (λ c. search needs)
     (λ c κs. search needs)
-    add-result
+    (λ c. omega (arith, within c, c .stride-of .ensures))
     (λ c. search needs)
     (λ c. search needs)
-    part-result-end
+    (λ c. omega (arith, within c, c .stride-of .ensures))
     (λ c. search needs)
     (λ c κs. search needs)
-    add-result-2
+    (λ c. omega (arith, within2 c, c .stride-of2 .ensures))
     (λ c. search needs)
     (λ c. search needs)
-    part-result-end-2
+    (λ c. omega (arith, within2 c, c .stride-of2 .ensures))
     (λ c. search needs)
     (λ c. search needs)
     (λ c. search needs)

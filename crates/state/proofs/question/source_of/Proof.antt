@@ -2,21 +2,8 @@
 use mathlib.Core.Path.{sym, ap, _∙_}
 use Rattle.state.specs.Asking.{sourceOf}
 use borrow.Author.Needs.{needs}
-use borrow.Author.Needs.{needs}
 use Rattle.state.proofs.question.source_of.Statement.{statement}
 use Rattle.state.proofs.question.source_of.Tie as tie
-
-returns : tie.Need-returns
-returns c = ap sourceOf (sym (c .enum-told .given .1) ∙ c .before .before .locate .ensures)
-
-returns-2 : tie.Need-returns-2
-returns-2 c = ap sourceOf (sym (c .enum-told2 .given .1) ∙ c .before .before .locate .ensures)
-
-returns-3 : tie.Need-returns-3
-returns-3 c = ap sourceOf (sym (c .enum-told3 .given .1) ∙ c .before .before .locate .ensures)
-
-returns-4 : tie.Need-returns-4
-returns-4 c = ap sourceOf (sym (c .before .refusal .given .1) ∙ c .before .before .before .locate .ensures)
 
 pub source-of-spec : {M : Type 1} → statement M
 source-of-spec =
@@ -27,7 +14,7 @@ source-of-spec =
     (λ c. search needs)
     (λ c. search needs)
     (λ c. search needs)
-    returns
-    returns-2
-    returns-3
-    returns-4)
+    (λ c. ap sourceOf (sym (c .enum-told .given .1) ∙ c .before .before .locate .ensures))
+    (λ c. ap sourceOf (sym (c .enum-told2 .given .1) ∙ c .before .before .locate .ensures))
+    (λ c. ap sourceOf (sym (c .enum-told3 .given .1) ∙ c .before .before .locate .ensures))
+    (λ c. ap sourceOf (sym (c .before .refusal .given .1) ∙ c .before .before .before .locate .ensures)))

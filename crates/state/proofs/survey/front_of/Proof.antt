@@ -1,6 +1,7 @@
 -- `state::survey::front_of` meets its contract. The loop: the tally stands for what was found so far, and each slice so far is none above BASELINE. Assumes nothing.
 use Prim.Native.Nat.{ℕ, _+_, _-_, _≤_, _<_}
 use mathlib.Core.Path.{_≡_, refl, sym, ap, subst, _∙_}
+use mathlib.Core.Bool.{Bool}
 use mathlib.Core.List.{List, _∷_}
 use mathlib.Core.Logic.{⊎-elim}
 use native.Mathlib.Omega.{arith}
@@ -12,7 +13,7 @@ use Rattle.laws.proofs.Put.{rising-drop}
 use Rattle.octets.specs.Bytes.{byteOf}
 use Rattle.slice.specs.Record.{baseline, recordSize, keyLess, sameKey, viewOf, Slice}
 use Rattle.slice.proofs.Keys.{key-order}
-use Rattle.table.specs.Header.{countOf, strideOf, roomOf, recordAt}
+use Rattle.table.specs.Header.{countOf, strideOf, recordAt}
 use Rattle.history.specs.Counted.{sliceKey}
 use Rattle.history.specs.Anchor.{stands}
 use Rattle.state.specs.Asking.{slicesOf}
@@ -35,71 +36,72 @@ abbrev μ-loop : tie.MeasureT-loop
 μ-loop permanent instant size count bases₀ i₀ bases i = count - i
 
 -- the record that a turn looks at, and the slice that it says
-abbrev table : tie.After-record-at Inv-loop μ-loop → List ℕ
-table k = k .before .before .before .before .before .before .args .permanent .now
+module _ (k : tie.After-record-at Inv-loop μ-loop) where
+  abbrev start : tie.Start Inv-loop μ-loop
+  start = k .before .before .before .before .before .before
 
-abbrev place : tie.After-record-at Inv-loop μ-loop → ℕ
-place k = k .before .before .loop .i
+  abbrev table : List ℕ
+  table = start .args .permanent .now
 
-below : (k : tie.After-record-at Inv-loop μ-loop) → place k < countOf (table k)
-below k = omega arith
+  abbrev place : ℕ
+  place = k .before .before .loop .i
 
-roomy : (k : tie.After-record-at Inv-loop μ-loop) → countOf (table k) ≤ roomOf (recordSize (strideOf (table k))) (table k)
-roomy k = k .before .before .before .before .before .before .pre .0
+  abbrev here : Slice
+  here = viewOf (strideOf table) (recordAt (recordSize (strideOf table)) place table)
 
-read : (k : tie.After-record-at Inv-loop μ-loop) → k .record-at .result .now ≡ recordAt (recordSize (strideOf (table k))) (place k) (table k)
-read k = read-by (table k) (place k) (k .before .before .before .before .stride-of .ensures) (k .record-at .ensures .0)
+  below : place < countOf table
+  below = omega arith
 
-abbrev here : tie.After-record-at Inv-loop μ-loop → Slice
-here k = viewOf (strideOf (table k)) (recordAt (recordSize (strideOf (table k))) (place k) (table k))
+  read : k .record-at .result .now ≡ recordAt (recordSize (strideOf table)) place table
+  read = read-by table place (k .before .before .before .before .stride-of .ensures) (k .record-at .ensures .0)
 
-next : (k : tie.After-record-at Inv-loop μ-loop) → drop (place k) (slicesOf (table k)) ≡ here k ∷ drop (place k + 1) (slicesOf (table k))
-next k = slices-at (table k) (place k) (below k) (roomy k)
+  next : drop place (slicesOf table) ≡ here ∷ drop (place + 1) (slicesOf table)
+  next = slices-at table place below (start .pre .0)
+
+  -- those that hold, and all that do
+  abbrev test : Slice → Bool
+  test = stands (slicesOf table) (start .args .instant)
+
+  abbrev all : Few
+  all = tallyFrom test 0 Zero (slicesOf table)
 
 kind : (b : tie.After-byte Inv-loop μ-loop) → b .byte .result ≡ here (b .before) .kind
 unfolding viewOf
 kind b = b .byte .ensures ∙ ap (λ r. byteOf r 0) (read (b .before))
 
-told : (v : tie.After-is-holding Inv-loop μ-loop) → v .is-holding .result ≡ stands (slicesOf (table (v .before .before .before))) (v .before .before .before .before .before .before .before .before .before .args .instant) (here (v .before .before .before))
+told : (v : tie.After-is-holding Inv-loop μ-loop) → let k = v .before .before .before in v .is-holding .result ≡ test k (here k)
 told v =
     let k = v .before .before .before in
-    let t = v .before .before .before .before .before .before .before .before .before .args .instant in
+    let t = start k .args .instant in
     v .is-holding .ensures (strideOf (table k)) ∙ (ap (λ r. holding baseline t (viewOf (strideOf (table k)) r)) (read k) ∙ base-holding (slicesOf (table k)) t (here k))
-
-loop-holds : tie.Need-loop-holds Inv-loop μ-loop
-loop-holds c =
-    (omega arith, ((Zero, refl, refl), λ j d h. absurd (omega arith)))
 
 returns : tie.Need-returns Inv-loop μ-loop
 returns c =
     let k = c .before .before in
-    let t = c .before .before .before .before .before .before .before .before .args .instant in
-    let f = stands (slicesOf (table k)) t in
-    let l = c .before .before .before .before .loop in
+    let l = k .before .before .loop in
+    let rest = drop (place k + 1) (slicesOf (table k)) in
     let high : baseline < here k .kind = omega (arith, kind (c .before), c .if1 .taken) in
-    let up = subst (Rising sliceKey keyLess sameKey) (next k) (rising-drop sliceKey keyLess sameKey key-order (place k) (slicesOf (table k)) (c .before .before .before .before .before .before .before .before .pre .1)) in
-    (keeps-rest (tallyWith f) (λ few. few) (l .bases) (tallyFrom f 0 Zero (slicesOf (table k))) (place k) (here k ∷ drop (place k + 1) (slicesOf (table k))) (λ d m s n. tally-past f n d (none-stands (slicesOf (table k)) t d (kinds-rise (here k) (drop (place k + 1) (slicesOf (table k))) up high d m)) s) (subst (Keeps (tallyWith f) (λ few. few) (l .bases) (tallyFrom f 0 Zero (slicesOf (table k))) (place k)) (next k) (l .inv .1 .0)), (omega arith, l .inv .1 .1))
-
-loop-less : tie.Need-loop-less Inv-loop μ-loop
-loop-less c =
-    omega arith
+    let up = subst (Rising sliceKey keyLess sameKey) (next k) (rising-drop sliceKey keyLess sameKey key-order (place k) (slicesOf (table k)) (start k .pre .1)) in (
+      keeps-rest (tallyWith (test k)) (λ few. few) (l .bases) (all k) (place k) (here k ∷ rest)
+          (λ d m s n. tally-past (test k) n d (none-stands (slicesOf (table k)) (start k .args .instant) d (kinds-rise (here k) rest up high d m)) s)
+          (subst (Keeps (tallyWith (test k)) (λ few. few) (l .bases) (all k) (place k)) (next k) (l .inv .1 .0)),
+      (omega arith, l .inv .1 .1),
+    )
 
 loop-again : tie.Need-loop-again Inv-loop μ-loop
 loop-again c =
     let k = c .before .before .before .before in
-    let t = c .before .before .before .before .before .before .before .before .before .before .args .instant in
-    let f = stands (slicesOf (table k)) t in
-    let l = c .before .before .before .before .before .before .loop in
+    let l = k .before .before .loop in
     let low : here k .kind ≤ baseline = omega (arith, kind (c .before .before .before), c .before .before .if1 .left) in (
       omega arith,
       (
         ⊎-elim
-            (λ x. keeps-turn (tallyWith f) (λ few. few) (l .bases) _ (tallyFrom f 0 Zero (slicesOf (table k))) (place k) (here k) _ _ (next k) (oneMore (place k)) (tally-turn f (place k) (here k) (sym (told (c .before)) ∙ x .0 .taken)) (x .2 ∙ x .1 .ensures) (l .inv .1 .0))
-            (λ x. keeps-past (tallyWith f) (λ few. few) (l .bases) _ (tallyFrom f 0 Zero (slicesOf (table k))) (place k) (here k) _ _ (next k) (tally-past f (place k) (here k) (sym (told (c .before)) ∙ x .0 .left)) (x .1) (l .inv .1 .0))
+            (λ x. keeps-turn (tallyWith (test k)) (λ few. few) (l .bases) _ (all k) (place k) (here k) _ _ (next k) (oneMore (place k)) (tally-turn (test k) (place k) (here k) (sym (told (c .before)) ∙ x .0 .taken)) (x .2 ∙ x .1 .ensures) (l .inv .1 .0))
+            (λ x. keeps-past (tallyWith (test k)) (λ few. few) (l .bases) _ (all k) (place k) (here k) _ _ (next k) (tally-past (test k) (place k) (here k) (sym (told (c .before)) ∙ x .0 .left)) (x .1) (l .inv .1 .0))
             (c .if2 .came),
         λ j d h.
             by-test (eqb j (place k))
-            (λ y. let e : j ≡ place k = omega tests in rw (ap (λ (n : ℕ). getD (slicesOf (table k)) n d) e ∙ slice-at (table k) (place k) d (below k) (roomy k)) low)
+            (λ y. let e : j ≡ place k = omega tests in rw (ap (λ (n : ℕ). getD (slicesOf (table k)) n d) e ∙ slice-at (table k) (place k) d (below k) (start k .pre .0)) low)
             (λ n. l .inv .1 .1 j d (omega tests)),
       ),
     )
@@ -122,13 +124,13 @@ front-of-spec =
     (λ c. search needs)
     (λ c κs. search needs)
     (λ c. search needs)
-    loop-holds
+    (λ c. (omega arith, ((Zero, refl, refl), λ j d h. absurd (omega arith))))
     (λ c κs. search needs)
     (λ c κs. search needs)
     returns
     (λ c κs. search needs)
     (λ c κs. search needs)
     (λ c. search needs)
-    loop-less
+    (λ c. omega arith)
     loop-again
     returns-2)

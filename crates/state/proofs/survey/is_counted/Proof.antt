@@ -3,7 +3,6 @@ use borrow.Author.Tests.{ne-eqb, eq-eqb}
 use Rattle.slice.specs.Record.{viewOf}
 use Rattle.history.specs.Counted.{counts}
 use borrow.Author.Needs.{needs}
-use borrow.Author.Needs.{needs}
 use Rattle.state.proofs.survey.is_counted.Statement.{statement}
 use Rattle.state.proofs.survey.is_counted.Tie as tie
 

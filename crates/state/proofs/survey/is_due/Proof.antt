@@ -5,7 +5,6 @@ use Rattle.slice.specs.Record.{viewOf}
 use Rattle.history.specs.Counted.{holds}
 use Rattle.history.specs.Parts.{due}
 use borrow.Author.Needs.{needs}
-use borrow.Author.Needs.{needs}
 use Rattle.state.proofs.survey.is_due.Statement.{statement}
 use Rattle.state.proofs.survey.is_due.Tie as tie
 

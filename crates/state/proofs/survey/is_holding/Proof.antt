@@ -5,7 +5,6 @@ use Rattle.slice.specs.Record.{viewOf}
 use Rattle.history.specs.Counted.{holds}
 use Rattle.state.specs.Steps.{holding}
 use borrow.Author.Needs.{needs}
-use borrow.Author.Needs.{needs}
 use Rattle.state.proofs.survey.is_holding.Statement.{statement}
 use Rattle.state.proofs.survey.is_holding.Tie as tie
 

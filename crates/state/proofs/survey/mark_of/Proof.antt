@@ -5,7 +5,6 @@ use Rattle.slice.specs.Record.{viewOf}
 use Rattle.slice.specs.declared.record.Period.{Period}
 use Rattle.slice.specs.declared.record.Key.{Key}
 use borrow.Author.Needs.{needs}
-use borrow.Author.Needs.{needs}
 use Rattle.state.proofs.survey.mark_of.Statement.{statement}
 use Rattle.state.proofs.survey.mark_of.Tie as tie
 

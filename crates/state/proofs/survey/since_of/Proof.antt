@@ -7,20 +7,12 @@ use borrow.Author.Needs.{needs}
 use Rattle.state.proofs.survey.since_of.Statement.{statement}
 use Rattle.state.proofs.survey.since_of.Tie as tie
 
-returns : tie.Need-returns
-returns c =
-    sym (ap (sinceOf (c .before .before .before .args .permanent .now)) (c .enum-told .given .1))
-
 returns-2 : tie.Need-returns-2
 returns-2 c =
     let a = c .before .before .before .before .before .before .before .before .args in
     let i = c .before .before .before .before .before .bases .given .0 .0 in
     ap (λ p. p .begin) (c .before .period-of .ensures ∙ ap periodOf (read-by (a .permanent .now) i (c .before .before .before .stride-of .ensures) (c .before .before .record-at .ensures .0)))
     ∙ sym (ap (sinceOf (a .permanent .now)) (c .before .before .before .before .before .bases .given .1))
-
-returns-3 : tie.Need-returns-3
-returns-3 c =
-    sym (ap (sinceOf (c .before .before .before .args .permanent .now)) (c .enum-told2 .given .1))
 
 pub since-of-spec : {M : Type 1} → statement M
 since-of-spec =
@@ -34,6 +26,6 @@ since-of-spec =
     (λ c κs. search needs)
     (λ c κs. search needs)
     (λ c. search needs)
-    returns
+    (λ c. sym (ap (sinceOf (c .before .before .before .args .permanent .now)) (c .enum-told .given .1)))
     returns-2
-    returns-3)
+    (λ c. sym (ap (sinceOf (c .before .before .before .args .permanent .now)) (c .enum-told2 .given .1))))

@@ -1,15 +1,15 @@
 -- `state::writing::life_of_state` meets its contract: each life time of the record that tells it last. Assumes nothing.
-use Prim.Native.Nat.{ℕ, _+_, _*_, _<_}
+use Prim.Native.Nat.{ℕ, _+_, _*_}
 use mathlib.Core.Path.{_≡_, ap, ap₂, _∙_}
 use mathlib.Core.List.{List}
 use native.Mathlib.Omega.{arith}
-use lib.ListN.{length, getD}
+use lib.ListN.{getD}
 use Rattle.slice.specs.Record.{recordSize, viewOf, Slice}
 use Rattle.slice.specs.declared.record.Life.{Life}
 use Rattle.table.specs.Header.{strideOf, recordAt}
 use Rattle.history.specs.Parts.{tells}
 use Rattle.state.specs.Steps.{nothing, originOf, lifeAt}
-use Rattle.state.proofs.Walks.{place-most, read-by, seen-by, sized-by}
+use Rattle.state.proofs.Walks.{Read, read-here}
 use borrow.Author.Needs.{needs}
 use Rattle.state.proofs.writing.life_of_state.Statement.{statement}
 use Rattle.state.proofs.writing.life_of_state.Tie as tie
@@ -20,17 +20,10 @@ table k = k .before .before .before .args .permanent .now
 abbrev anchor : tie.After-record-at → List ℕ
 anchor k = recordAt (recordSize (strideOf (table k))) (k .before .before .before .args .start .place) (table k)
 
-read : (k : tie.After-record-at) → k .record-at .result .now ≡ anchor k
-read k = read-by (table k) (k .before .before .before .args .start .place) (k .before .stride-of .ensures) (k .record-at .ensures .0)
-
-seen : (k : tie.After-record-at) → viewOf (k .before .stride-of .result) (k .record-at .result .now) ≡ viewOf (strideOf (table k)) (anchor k)
-seen k = seen-by (table k) (k .before .before .before .args .start .place) (k .before .stride-of .ensures) (read k)
-
-sized : (k : tie.After-record-at) → length (k .record-at .result .now) ≡ recordSize (k .before .stride-of .result)
-sized k = sized-by (table k) (k .before .before .before .args .start .place) (k .before .stride-of .ensures) (read k) (k .before .before .before .pre .1 .0) (k .before .before .before .pre .1 .1)
-
-small : (k : tie.After-record-at) → k .before .before .before .args .start .place < 256
-small k = place-most (table k) (k .before .before .before .pre .1 .0) (k .before .before .before .args .start .place) (k .before .before .before .pre .1 .1)
+read : (k : tie.After-record-at) → Read (table k) (k .before .before .before .args .start .place) (k .before .stride-of .result) (k .record-at .result .now)
+read k =
+    let s = k .before .before .before in
+    read-here (table k) (s .args .start .place) (k .before .stride-of .ensures) (k .record-at .ensures .0) (s .pre .1 .0) (s .pre .1 .1)
 
 -- a life time as it was found, part by part
 told : (k : tie.After-record-at) (q : ℕ) (l : Life) (o : ℕ) → l ≡ lifeAt (32 + 8 * (k .before .stride-of .result)) (table k) o
@@ -38,13 +31,7 @@ told : (k : tie.After-record-at) (q : ℕ) (l : Life) (o : ℕ) → l ≡ lifeAt
     → l ≡ lifeAt (recordSize (strideOf (table k))) (table k) (originOf (k .before .before .before .args .start) (tells q (viewOf (strideOf (table k)) (anchor k))) (getD (k .before .before .before .args .t3 .marks) q nothing))
 told k q l o e f =
     e ∙ (ap (λ (n : ℕ). lifeAt (32 + 8 * n) (table k) o) (k .before .stride-of .ensures)
-    ∙ ap (lifeAt (recordSize (strideOf (table k))) (table k)) (f ∙ ap (λ (v : Slice). originOf (k .before .before .before .args .start) (tells q v) (getD (k .before .before .before .args .t3 .marks) q nothing)) (seen k)))
-
-origin-requires : tie.Need-origin-requires
-origin-requires c κs = (sized (c .before .before), (omega arith, small (c .before .before)))
-
-origin-requires-2 : tie.Need-origin-requires-2
-origin-requires-2 c κs = (sized (c .before .before .before .before), (omega arith, small (c .before .before .before .before)))
+    ∙ ap (lifeAt (recordSize (strideOf (table k))) (table k)) (f ∙ ap (λ (v : Slice). originOf (k .before .before .before .args .start) (tells q v) (getD (k .before .before .before .args .t3 .marks) q nothing)) (read k .seen)))
 
 returns : tie.Need-returns
 returns c =
@@ -61,8 +48,8 @@ life-of-state-spec =
     (λ c κs. search needs)
     (λ c. search needs)
     (λ c. search needs)
-    origin-requires
+    (λ c κs. let r = read (c .before .before) in (r .sized, (omega arith, r .small)))
     (λ c κs. search needs)
-    origin-requires-2
+    (λ c κs. let r = read (c .before .before .before .before) in (r .sized, (omega arith, r .small)))
     (λ c κs. search needs)
     returns)

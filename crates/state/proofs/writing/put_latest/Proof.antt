@@ -9,7 +9,7 @@ use Rattle.slice.specs.Record.{recordSize, viewOf, Slice}
 use Rattle.table.specs.Header.{strideOf, recordAt}
 use Rattle.history.specs.Parts.{tells}
 use Rattle.state.specs.Steps.{originOf, saidAt, propertyBy}
-use Rattle.state.proofs.Walks.{place-most, read-by, seen-by, sized-by}
+use Rattle.state.proofs.Walks.{Read, read-here}
 use Rattle.state.proofs.Settled.{origin-known}
 use borrow.Author.Needs.{needs}
 use Rattle.state.proofs.writing.put_latest.Statement.{statement}
@@ -18,27 +18,20 @@ use Rattle.state.proofs.writing.put_latest.Tie as tie
 abbrev table : tie.After-record-at → List ℕ
 table k = k .before .before .before .before .before .before .args .permanent .now
 
-read : (k : tie.After-record-at) → k .record-at .result .now ≡ recordAt (recordSize (strideOf (table k))) (k .before .before .before .before .before .before .args .start .place) (table k)
-read k = read-by (table k) (k .before .before .before .before .before .before .args .start .place) (k .before .stride-of .ensures) (k .record-at .ensures .0)
-
-seen : (k : tie.After-record-at) → viewOf (k .before .stride-of .result) (k .record-at .result .now) ≡ viewOf (strideOf (table k)) (recordAt (recordSize (strideOf (table k))) (k .before .before .before .before .before .before .args .start .place) (table k))
-seen k = seen-by (table k) (k .before .before .before .before .before .before .args .start .place) (k .before .stride-of .ensures) (read k)
+read : (k : tie.After-record-at) → Read (table k) (k .before .before .before .before .before .before .args .start .place) (k .before .stride-of .result) (k .record-at .result .now)
+read k =
+    let s = k .before .before .before .before .before .before in
+    read-here (table k) (s .args .start .place) (k .before .stride-of .ensures) (k .record-at .ensures .0) (s .pre .1 .0) (s .pre .1 .1 .1 .0)
 
 told : (c : tie.After-origin) → let a = c .before .before .before .before .before .before .before .args in
     c .origin .result ≡ originOf (a .start) (tells (a .n) (viewOf (strideOf (table (c .before))) (recordAt (recordSize (strideOf (table (c .before)))) (a .start .place) (table (c .before))))) (a .under)
-told c = let a = c .before .before .before .before .before .before .before .args in c .origin .ensures ∙ ap (λ (v : Slice). originOf (a .start) (tells (a .n) v) (a .under)) (seen (c .before))
+told c = let a = c .before .before .before .before .before .before .before .args in c .origin .ensures ∙ ap (λ (v : Slice). originOf (a .start) (tells (a .n) v) (a .under)) (read (c .before) .seen)
 
 returns : tie.Need-returns
 unfolding propertyBy
 returns c =
     let a = c .before .before .before .before .before .before .before .before .args in
     c .before .before .put-property .ensures ∙ rw (ne-eqb _ _ (c .before .before .before .before .if1 .taken))
-
-origin-requires : tie.Need-origin-requires
-origin-requires c κs =
-    let s = c .before .before .before .before .before .before in
-    let p = s .pre .1 .0 in
-    (sized-by (table c) (s .args .start .place) (c .before .stride-of .ensures) (read c) p (s .pre .1 .1 .1 .0), (omega arith, place-most (table c) p (s .args .start .place) (s .pre .1 .1 .1 .0)))
 
 put-property-requires-2 : tie.Need-put-property-requires-2
 put-property-requires-2 c κs =
@@ -62,7 +55,7 @@ put-latest-spec =
     (λ c. search needs)
     (λ c. search needs)
     (λ c κs. search needs)
-    origin-requires
+    (λ c κs. (read c .sized, (omega arith, read c .small)))
     put-property-requires-2
     (λ c. search needs)
     returns-2)

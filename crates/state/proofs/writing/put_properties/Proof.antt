@@ -20,21 +20,6 @@ Inv-loop record₀ permanent temporary start mentions passing n₀ «record» n 
 abbrev μ-loop : tie.MeasureT-loop
 μ-loop record₀ permanent temporary start mentions passing n₀ «record» n = 8 - n
 
-loop-holds : tie.Need-loop-holds Inv-loop μ-loop
-loop-holds c = (omega arith, (refl, pasted-none _ 32 (omega (arith, c .before .before .before .pre .0))))
-
-mul-under : tie.Need-mul-under Inv-loop μ-loop
-mul-under c = omega arith
-
-element-copy-out-under : tie.Need-element-copy-out-under Inv-loop μ-loop
-element-copy-out-under c = omega arith
-
-mul-over : tie.Need-mul-over Inv-loop μ-loop
-mul-over c = omega arith
-
-array-read-over : tie.Need-array-read-over Inv-loop μ-loop
-array-read-over c = omega arith
-
 put-latest-requires : tie.Need-put-latest-requires Inv-loop μ-loop
 put-latest-requires c κs =
     let s = c .before .before .before .before .before .before .before in
@@ -42,12 +27,6 @@ put-latest-requires c κs =
     let n = c .before .before .before .loop .n in
     let h = c .before .before .loop-test .taken in
     (c .before .before .loop-test .taken, (p .1 .0, (p .1 .1 .0, (p .1 .1 .1 .0, (p .1 .1 .1 .1 .1 .1 .0 n h, p .1 .1 .1 .1 .1 .1 .1 n h)))))
-
-add-n : tie.Need-add-n Inv-loop μ-loop
-add-n c = omega arith
-
-loop-less : tie.Need-loop-less Inv-loop μ-loop
-loop-less c = omega arith
 
 loop-again : tie.Need-loop-again Inv-loop μ-loop
 loop-again c =
@@ -76,14 +55,14 @@ put-properties-spec =
     (tie.spec
     Inv-loop
     μ-loop
-    loop-holds
-    mul-under
-    element-copy-out-under
-    mul-over
-    array-read-over
+    (λ c. (omega arith, (refl, pasted-none _ 32 (omega (arith, c .before .before .before .pre .0)))))
+    (λ c. omega arith)
+    (λ c. omega arith)
+    (λ c. omega arith)
+    (λ c. omega arith)
     put-latest-requires
-    add-n
-    loop-less
+    (λ c. omega arith)
+    (λ c. omega arith)
     loop-again
     (λ c. search needs)
     returns)

@@ -13,15 +13,8 @@ use Rattle.state.specs.Steps.{saidAt}
 use Rattle.state.proofs.Walks.{size-at}
 use Rattle.state.proofs.Pasting.{said-cut}
 use borrow.Author.Needs.{needs}
-use borrow.Author.Needs.{needs}
 use Rattle.state.proofs.writing.put_property.Statement.{statement}
 use Rattle.state.proofs.writing.put_property.Tie as tie
-
-mul-at : tie.Need-mul-at
-mul-at c = omega (arith, piece-within (c .stride-of .result) (c .before .before .before .args .n) 8 (c .before .before .before .pre .0))
-
-add-at : tie.Need-add-at
-add-at c = omega (arith, piece-within (c .stride-of .result) (c .before .before .before .args .n) 8 (c .before .before .before .pre .0))
 
 returns : tie.Need-returns
 returns c =
@@ -55,8 +48,8 @@ put-property-spec =
     tie.close
     (tie.spec
     (λ c κs. search needs)
-    mul-at
-    add-at
+    (λ c. omega (arith, piece-within (c .stride-of .result) (c .before .before .before .args .n) 8 (c .before .before .before .pre .0)))
+    (λ c. omega (arith, piece-within (c .stride-of .result) (c .before .before .before .args .n) 8 (c .before .before .before .pre .0)))
     (λ c κs. search needs)
     (λ c. search needs)
     returns

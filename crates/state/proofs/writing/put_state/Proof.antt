@@ -1,5 +1,5 @@
 -- `state::writing::put_state` meets its contract: the head and then the properties are all of the record. Assumes nothing.
-use Prim.Native.Nat.{ℕ, _+_}
+use Prim.Native.Nat.{ℕ}
 use mathlib.Core.Path.{refl, ap, _∙_}
 use mathlib.Core.List.{List, _++_}
 use native.Mathlib.Omega.{arith}
@@ -10,7 +10,6 @@ use Rattle.table.specs.Header.{strideOf}
 use Rattle.state.specs.Written.{stateKind, stateTimes}
 use Rattle.state.specs.Steps.{propertyFrom, runOf}
 use Rattle.state.proofs.Pasting.{run-length, from-length, whole-pasted}
-use borrow.Author.Needs.{needs}
 use borrow.Author.Needs.{needs}
 use Rattle.state.proofs.writing.put_state.Statement.{statement}
 use Rattle.state.proofs.writing.put_state.Tie as tie

@@ -1,23 +1,23 @@
 -- `state::writing::put_times` meets its contract: four numbers, one behind the other. Assumes nothing.
-use Prim.Native.Nat.{ℕ}
-use mathlib.Core.Path.{ap, _∙_}
-use mathlib.Core.List.{List}
+use mathlib.Core.Path.{refl, ap, _∙_}
+use native.Mathlib.Omega.{arith}
 use Rattle.octets.specs.Writing.{bytesOf, pasted}
-use Rattle.numbers.specs.Numbers.{none}
 use Rattle.numbers.specs.declared.Instant.{Instant}
-use Rattle.state.proofs.Pasting.{times-pasted}
-use borrow.Author.Needs.{needs}
+use Rattle.state.proofs.Pasting.{pasted-on}
 use borrow.Author.Needs.{needs}
 use Rattle.state.proofs.writing.put_times.Statement.{statement}
 use Rattle.state.proofs.writing.put_times.Tie as tie
 
 returns : tie.Need-returns
 returns c =
-    let a = c .before .before .before .before .before .before .before .before .before .before .before .before .before .before .before .before .before .before .before .before .args in
-    let one = c .before .before .before .before .before .before .before .before .before .before .before .before .before .before .put32 .ensures in
-    let two = c .before .before .before .before .before .before .before .before .before .before .put322 .ensures ∙ (ap (λ (l : List ℕ). pasted l 12 (bytesOf 4 (c .before .before .before .before .before .before .before .before .before .before .before .before .before .before .before .before .before .before .none .result .0))) one ∙ ap (λ (i : Instant). pasted (pasted (a .«record» .now) 8 (bytesOf 4 (a .instant .0))) 12 (bytesOf 4 (i .0))) (c .before .before .before .before .before .before .before .before .before .before .before .before .before .before .before .before .before .before .none .ensures)) in
-    let three = c .before .before .before .before .before .before .put323 .ensures ∙ ap (λ (l : List ℕ). pasted l 16 (bytesOf 4 (a .life .begin .0))) two in
-    c .before .before .put324 .ensures ∙ (ap (λ (l : List ℕ). pasted l 20 (bytesOf 4 (a .life .end .0))) three ∙ times-pasted _ _ _ (c .before .before .before .before .before .before .before .before .before .before .before .before .before .before .before .before .before .before .before .before .pre))
+    let p4 = c .before .before in
+    let p3 = p4 .before .before .before .before in
+    let p2 = p3 .before .before .before .before in
+    let p1 = p2 .before .before .before .before in
+    let n = p1 .before .before .before .before in
+    let room = n .before .before .pre in
+    let two = p2 .put322 .ensures ∙ ap (λ (i : Instant). pasted (p1 .put32 .last .0) 12 (bytesOf 4 (i .0))) (n .none .ensures) in
+    pasted-on _ _ _ 8 20 (pasted-on _ _ _ 8 16 (pasted-on _ _ _ 8 12 (p1 .put32 .ensures) two refl (omega arith)) (p3 .put323 .ensures) refl (omega arith)) (p4 .put324 .ensures) refl (omega arith)
 
 pub put-times-spec : {M : Type 1} → statement M
 put-times-spec =

@@ -7,7 +7,6 @@ use lib.ListN.{take, replicate}
 use Rattle.octets.specs.Writing.{pasted}
 use Rattle.state.proofs.Pasting.{unknown-cut}
 use borrow.Author.Needs.{needs}
-use borrow.Author.Needs.{needs}
 use Rattle.state.proofs.writing.put_unknown.Statement.{statement}
 use Rattle.state.proofs.writing.put_unknown.Tie as tie
 
