@@ -5,7 +5,7 @@ use mathlib.Core.List.{List, [], _∷_, _++_, map, append-assoc, append-nil}
 use mathlib.Core.Bool.{Bool, true, false, cond, true≢false}
 use native.Mathlib.Nat.{add-zero}
 use native.Mathlib.Omega.{arith}
-use lib.ListN.{length, take, drop, getD, length-append, take-append-drop}
+use lib.ListN.{length, take, drop, getD, length-append}
 use lib.Seq.{take-at, getD-take, getD-drop}
 use lib.Dec.{ltb}
 use borrow.Author.Tests.{lt-ltb, le-ltb, ltb-false}
@@ -13,19 +13,18 @@ use Rattle.laws.specs.Lists.{joined}
 use Rattle.laws.proofs.Lists.{length-pieces}
 use Rattle.laws.proofs.Pieces.{piece-at, joined-append}
 use Rattle.octets.specs.Bytes.{byteOf}
-use Rattle.octets.specs.Writing.{pasted}
-use Rattle.octets.proofs.Writing.{pasted-whole, pasted-then}
+use Rattle.octets.proofs.Writing.{pasted-whole}
 use Rattle.property.specs.Eight.{propertiesOf}
 use Rattle.slice.specs.Record.{sequenceOf, periodOf, partsOf}
+use Rattle.state.proofs.Pasting.{pasted-on, pasted-none}
 use Rattle.text.specs.Listing.{digitsOf, decimalOf, endOf, formOf, lineOf, putOf}
 use Rattle.text.specs.Wrote.{Wrote}
-use Rattle.text.specs.declared.listing.Listing.{Listing}
 use Rattle.text.specs.declared.listing.Listing.the-variants.{Text, Needs}
 
 -- nothing is written
 pub wrote-none : (d : List ℕ) (at : ℕ) → at ≤ length d → Wrote 0 d at [] d at
 wrote-none d at h = record {
-  bytes = sym (pasted-whole d [] at (omega (arith, add-zero at)) ∙ ap (λ (n : ℕ). take at d ++ drop n d) (add-zero at) ∙ take-append-drop at d);
+  bytes = pasted-none d at h;
   next = sym (add-zero at);
   few = omega arith;
 }
@@ -33,9 +32,7 @@ wrote-none d at h = record {
 -- a text behind another
 pub then : {j k : ℕ} {d s t a b : List ℕ} {at q r : ℕ} → at + (j + k) ≤ length d → Wrote j d at a s q → Wrote k s q b t r → Wrote (j + k) d at (a ++ b) t r
 then {j} {k} {d} {s} {t} {a} {b} {at} {q} {r} h x y = record {
-  bytes =
-      y .bytes ∙ ap (λ (l : List ℕ). pasted l q b) (x .bytes)
-      ∙ pasted-then d a b at q (sym (x .next)) (omega (arith, x .next, x .few, y .few));
+  bytes = pasted-on d a b at q (x .bytes) (y .bytes) (sym (x .next)) (omega (arith, x .next, x .few, y .few));
   next = omega (arith, y .next, x .next, length-append a b);
   few = omega (arith, x .few, y .few, length-append a b);
 }
@@ -109,17 +106,9 @@ lines-more f rs i h =
     ∙ ap (λ (l : List ℕ). joined (map f (take i rs)) ++ l) (append-nil (f (getD rs i [])))
 
 -- ---- what was put into a buffer lies within it
-abbrev isNeeds : Listing → Bool
-isNeeds (Text n) = false
-isNeeds (Needs n) = true
-
-abbrev lengthIn : Listing → ℕ
-lengthIn (Text n) = n
-lengthIn (Needs n) = n
-
 within : (b : Bool) (n k m : ℕ) → (b ≡ false → n ≤ m) → cond b (Needs n) (Text n) ≡ Text k → k ≤ m
-within true n k m h e = absurd (true≢false (ap isNeeds e))
-within false n k m h e = omega (arith, h refl, ap lengthIn e)
+within true n k m h e = absurd (true≢false cc)
+within false n k m h e = let q : n ≡ k = cc in omega (arith, h refl)
 
 pub put-within : (text buffer : List ℕ) (n : ℕ) → putOf text buffer ≡ Text n → n ≤ length buffer
 unfolding putOf

@@ -22,18 +22,12 @@ Inv-loop s₀ at «record» stride end₀ i₀ s end i =
 abbrev μ-loop : tie.MeasureT-loop
 μ-loop s₀ at «record» stride end₀ i₀ s end i = 8 - i
 
-loop-holds : tie.Need-loop-holds Inv-loop μ-loop
-loop-holds c = (omega arith, refl, wrote-none _ _ (omega arith))
-
 -- a property's place is small
 place : (c : tie.After-put-letters-arg Inv-loop μ-loop) → let l = c .before .before in l .loop .i * l .before .before .before .args .stride ≤ 32768
 place c =
     let l = c .before .before in
     let a = l .before .before .before in
     omega (arith, piece-within (a .args .stride) (l .loop .i) 8 (c .before .loop-test .taken), a .pre .1 .1)
-
-add-t15 : tie.Need-add-t15 Inv-loop μ-loop
-add-t15 c = omega (arith, mod-lt (c .byte .result) {m = 10} (omega arith))
 
 loop-again : tie.Need-loop-again Inv-loop μ-loop
 loop-again c =
@@ -57,11 +51,11 @@ put-forms-spec =
     (tie.spec
     Inv-loop
     μ-loop
-    loop-holds
+    (λ c. (omega arith, refl, wrote-none _ _ (omega arith)))
     (λ c. omega (arith, place c))
     (λ c. omega (arith, place c))
     (λ c κs. search needs)
-    add-t15
+    (λ c. omega (arith, mod-lt (c .byte .result) {m = 10} (omega arith)))
     (λ c. search needs)
     (λ c κs. search needs)
     (λ c. search needs)

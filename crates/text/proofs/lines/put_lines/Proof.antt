@@ -33,9 +33,6 @@ start c = c .before .before .before
 abbrev table : tie.After-stride-of Inv-loop μ-loop → List ℕ
 table c = start c .args .table .now
 
-loop-holds : tie.Need-loop-holds Inv-loop μ-loop
-loop-holds c = (omega arith, refl, wrote-none _ _ (omega (arith, start (c .before) .pre .1)))
-
 -- a turn
 abbrev looped : tie.After-record-at Inv-loop μ-loop → tie.At-loop Inv-loop μ-loop
 looped r = r .before .before .before
@@ -86,7 +83,7 @@ put-lines-spec =
     (λ c. search needs)
     (λ c κs. search needs)
     (λ c. search needs)
-    loop-holds
+    (λ c. (omega arith, refl, wrote-none _ _ (omega (arith, start (c .before) .pre .1))))
     (λ c κs. search needs)
     (λ r κs. (room r, (omega (arith, first r .stride-of .ensures), omega (arith, first r .stride-of .ensures))))
     (λ c. search needs)
