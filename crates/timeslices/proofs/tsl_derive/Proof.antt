@@ -1,3 +1,4 @@
+-- `timeslices::tsl_derive` meets its contract: a case for each answer. Assumes nothing.
 use mathlib.Core.Path.{_≡_, sym, ap, _∙_}
 use native.Mathlib.Omega.{arith}
 use Rattle.baselines.specs.Deriving.{derivationOf, afterDeriving}
@@ -22,12 +23,6 @@ cast-t9 c =
     let t = derived-told _ _ _ (sym (d .derive .ensures .0) ∙ c .before .count .given .1) in
     omega (arith, t .number, t .few)
 
-returns : tie.Need-returns
-returns c = numbered (c .before .before .before .before .before) _ (c .before .count .given .1)
-
-returns-2 : tie.Need-returns-2
-returns-2 c = numbered (c .before .before .before .before .before .before) _ (c .before .before .refusal .given .1)
-
 pub tsl-derive-spec : {M : Type 1} → statement M
 tsl-derive-spec =
     tie.close
@@ -38,6 +33,6 @@ tsl-derive-spec =
     (λ c. search needs)
     (λ c. search needs)
     (λ c. search needs)
-    returns
+    (λ c. numbered (c .before .before .before .before .before) _ (c .before .count .given .1))
     (λ c. search needs)
-    returns-2)
+    (λ c. numbered (c .before .before .before .before .before .before) _ (c .before .before .refusal .given .1)))

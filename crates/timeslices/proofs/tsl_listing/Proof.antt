@@ -1,4 +1,5 @@
-use Prim.Native.Nat.{ℕ, _≤_}
+-- `timeslices::tsl_listing` meets its contract: a case for each answer. Assumes nothing.
+use Prim.Native.Nat.{_≤_}
 use mathlib.Core.Path.{_≡_, sym, ap, _∙_}
 use native.Mathlib.Omega.{arith}
 use Rattle.text.specs.Listing.{listingOf, putOf, afterPut}
@@ -23,28 +24,16 @@ short c a e =
     let l : lengthIn a ≡ _ = ap lengthIn (sym e ∙ c .list .ensures .0) ∙ put-length (listingOf (g .permanent .now)) (g .text .now) in
     omega (arith, l, listing-most (g .permanent .now))
 
-cast-t9 : tie.Need-cast-t9
-cast-t9 c = omega (arith, short (c .before .before .before .before .before) _ (c .before .length .given .1))
-
-cast-t10 : tie.Need-cast-t10
-cast-t10 c = omega (arith, short (c .before .before .before .before .before) _ (c .before .length2 .given .1))
-
-returns : tie.Need-returns
-returns c = numbered (c .before .before .before .before .before) _ (c .before .length .given .1)
-
-returns-2 : tie.Need-returns-2
-returns-2 c = numbered (c .before .before .before .before .before) _ (c .before .length2 .given .1)
-
 pub tsl-listing-spec : {M : Type 1} → statement M
 tsl-listing-spec =
     tie.close
     (tie.spec
     (λ c κs. search needs)
     (λ c. search needs)
-    cast-t9
+    (λ c. omega (arith, short (c .before .before .before .before .before) _ (c .before .length .given .1)))
     (λ c. search needs)
-    cast-t10
+    (λ c. omega (arith, short (c .before .before .before .before .before) _ (c .before .length2 .given .1)))
     (λ c. search needs)
-    returns
+    (λ c. numbered (c .before .before .before .before .before) _ (c .before .length .given .1))
     (λ c. search needs)
-    returns-2)
+    (λ c. numbered (c .before .before .before .before .before) _ (c .before .length2 .given .1)))

@@ -1,3 +1,4 @@
+-- `timeslices::tsl_permanent_state` meets its contract: the numbers of what the library answers. Assumes nothing.
 use Prim.Native.Nat.{ℕ}
 use mathlib.Core.Path.{_≡_, ap, _∙_}
 use mathlib.Core.List.{List}
@@ -15,17 +16,5 @@ numbered : (p : List ℕ) (i : Instant) (b s : List ℕ) (o : Outcome) (a : Answ
     → (a ≡ outcomeNumbers (permanentStateOf p i b)) × (s ≡ afterState (permanentStateOf p i b) p i b)
 numbered p i b s o a e h = (e ∙ ap outcomeNumbers (h .0), rw (h .0) at (h .1))
 
-permanent-state-requires : tie.Need-permanent-state-requires
-permanent-state-requires c κs = search needs
-
-told-requires : tie.Need-told-requires
-told-requires c κs = search needs
-
-same-length : tie.Need-same-length
-same-length c = search needs
-
-returns : tie.Need-returns
-returns c = numbered _ _ _ _ _ _ (c .told .ensures) (c .before .before .before .permanent-state .ensures)
-
 pub tsl-permanent-state-spec : {M : Type 1} → statement M
-tsl-permanent-state-spec = tie.close (tie.spec permanent-state-requires told-requires same-length returns)
+tsl-permanent-state-spec = tie.close (tie.spec (λ c κs. search needs) (λ c κs. search needs) (λ c. search needs) (λ c. numbered _ _ _ _ _ _ (c .told .ensures) (c .before .before .before .permanent-state .ensures)))

@@ -1,3 +1,4 @@
+-- `timeslices::tsl_snapshot` meets its contract: the numbers of what the library answers. Assumes nothing.
 use Prim.Native.Nat.{ℕ}
 use mathlib.Core.Path.{_≡_, ap, _∙_}
 use mathlib.Core.List.{List}
@@ -15,17 +16,5 @@ numbered : (p t : List ℕ) (i : Instant) (b s : List ℕ) (o : Outcome) (a : An
     → (a ≡ outcomeNumbers (snapshotOf p t i b)) × (s ≡ afterSnapshot (snapshotOf p t i b) p t i b)
 numbered p t i b s o a e h = (e ∙ ap outcomeNumbers (h .0), rw (h .0) at (h .1))
 
-snapshot-requires : tie.Need-snapshot-requires
-snapshot-requires c κs = search needs
-
-told-requires : tie.Need-told-requires
-told-requires c κs = search needs
-
-same-length : tie.Need-same-length
-same-length c = search needs
-
-returns : tie.Need-returns
-returns c = numbered _ _ _ _ _ _ _ (c .told .ensures) (c .before .before .before .snapshot .ensures)
-
 pub tsl-snapshot-spec : {M : Type 1} → statement M
-tsl-snapshot-spec = tie.close (tie.spec snapshot-requires told-requires same-length returns)
+tsl-snapshot-spec = tie.close (tie.spec (λ c κs. search needs) (λ c κs. search needs) (λ c. search needs) (λ c. numbered _ _ _ _ _ _ _ (c .told .ensures) (c .before .before .before .snapshot .ensures)))
