@@ -7,6 +7,7 @@ pub mod Marks
 pub mod Front
 pub mod Anchors
 pub mod Settled
+pub mod Surveyed
 pub mod Filled
 pub mod Pasting
 pub mod Reach

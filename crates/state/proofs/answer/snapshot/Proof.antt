@@ -1,12 +1,10 @@
 -- `state::answer::snapshot` meets its contract: past the tests, the survey settles the standing, and what is written is the record of the state with the TEMPDELTAs that are valid. Assumes nothing.
 use Prim.Native.Nat.{ℕ, _≤_}
 use mathlib.Core.Path.{_≡_, refl, sym, ap, subst, _∙_}
-use mathlib.Core.Bool.{true}
 use mathlib.Core.List.{List}
 use native.Mathlib.Omega.{arith}
-use lib.ListN.{length, getD}
+use lib.ListN.{length}
 use Rattle.laws.specs.Keyed.{Rising}
-use Rattle.numbers.specs.declared.Instant.{Instant}
 use Rattle.slice.specs.Record.{recordSize, keyLess, sameKey}
 use Rattle.slice.specs.declared.check.Checked.the-variants.{Sound}
 use Rattle.table.specs.Header.{countOf, strideOf, roomOf}
@@ -17,104 +15,106 @@ use Rattle.history.specs.Counted.{sliceKey}
 use Rattle.history.specs.Anchor.{stands}
 use Rattle.history.specs.Permanent.{Standing, permanentAt}
 use Rattle.history.specs.Snapshot.{passing, overlaid, snapshotAt}
-use Rattle.history.specs.Parts.{opensDue, latestDue}
 use Rattle.state.specs.Asking.{slicesOf, checkBoth, snapshotOf, outcomeOf, recordOf}
-use Rattle.state.specs.Steps.{nothing, wanted, markDue, sinceOf}
+use Rattle.state.specs.Steps.{sinceOf}
 use Rattle.state.proofs.Slices.{sound-rising}
-use Rattle.state.proofs.Settled.{few-below, wanted-in, wanted-end, known-due, known-valid, Begun, Settled, settled}
+use Rattle.state.specs.declared.anchor.Standing as anchor
+use Rattle.state.specs.declared.anchor.Standing.the-variants.{From}
+use Rattle.state.proofs.Settled.{known-valid, Settled}
+use Rattle.state.proofs.Surveyed.{Surveyed, settle-asks, settles, mark-known}
 use Rattle.state.proofs.Filled.{snapshot-filled}
 use Rattle.state.proofs.Stages.{both-sound, snapshot-refused, snapshot-left, left-none, left-misfit, left-asked}
 use borrow.Author.Needs.{needs}
 use Rattle.state.proofs.answer.snapshot.Statement.{statement}
 use Rattle.state.proofs.answer.snapshot.Tie as tie
 
-abbrev table : tie.After-enum-told → List ℕ
-table c = c .before .before .before .before .before .before .args .permanent .now
+-- both tables are sound
+module _ (c : tie.After-enum-told) where
+  abbrev start : tie.Start
+  start = c .before .before .before .before .before .before
 
-abbrev other : tie.After-enum-told → List ℕ
-other c = c .before .before .before .before .before .before .args .temporary .now
+  abbrev table : List ℕ
+  table = start .args .permanent .now
 
-checked : (c : tie.After-enum-told) → checkBoth (table c) (other c) ≡ Sound
-checked c = sym (c .before .before .check-both .ensures) ∙ c .enum-told .given .1
+  abbrev other : List ℕ
+  other = start .args .temporary .now
 
-sound : (c : tie.After-enum-told) → checkTable sides.Permanent (table c) ≡ Sound
-sound c = both-sound (table c) (other c) (checked c) .0
+  abbrev standing : Standing
+  standing = snapshotAt (start .args .instant) (slicesOf table) (slicesOf other)
 
-sound2 : (c : tie.After-enum-told) → checkTable sides.Temporary (other c) ≡ Sound
-sound2 c = both-sound (table c) (other c) (checked c) .1
+  checked : checkBoth table other ≡ Sound
+  checked = sym (c .before .before .check-both .ensures) ∙ c .enum-told .given .1
 
-roomy2 : (c : tie.After-enum-told) → countOf (other c) ≤ roomOf (recordSize (strideOf (other c))) (other c)
-roomy2 c = sound-table sides.Temporary (other c) (sound2 c) .roomy
+  sound : (checkTable sides.Permanent table ≡ Sound) × (checkTable sides.Temporary other ≡ Sound)
+  sound = both-sound table other checked
 
-roomy : (c : tie.After-enum-told) → countOf (table c) ≤ roomOf (recordSize (strideOf (table c))) (table c)
-roomy c = sound-table sides.Permanent (table c) (sound c) .roomy
+  roomy : countOf table ≤ roomOf (recordSize (strideOf table)) table
+  roomy = sound-table sides.Permanent table (sound .0) .roomy
 
-up : (c : tie.After-enum-told) → Rising sliceKey keyLess sameKey (slicesOf (table c))
-up c = sound-rising (table c) sides.Permanent (sound c)
+  roomy2 : countOf other ≤ roomOf (recordSize (strideOf other)) other
+  roomy2 = sound-table sides.Temporary other (sound .1) .roomy
+
+  up : Rising sliceKey keyLess sameKey (slicesOf table)
+  up = sound-rising table sides.Permanent (sound .0)
+
+  -- the snapshot where the permanent state is told
+  laid : (s : Standing) → permanentAt (start .args .instant) (slicesOf table) ≡ s → standing ≡ overlaid (passing (start .args .instant) (slicesOf other)) s
+  unfolding snapshotAt
+  laid s e = ap (overlaid (passing (start .args .instant) (slicesOf other))) e
 
 -- 19 and 23 are past
-fits : (c : tie.Else2) → length (c .before .before .before .before .before .before .before .before .before .before .args .«record» .now) ≡ recordSize (strideOf (table (c .before .before .before .before)))
+fits : (c : tie.Else2) → let k = c .before .before .before .before in length (start k .args .«record» .now) ≡ recordSize (strideOf (table k))
 fits c = c .if2 .left ∙ ap recordSize (c .before .stride-of .ensures)
 
-asked : (c : tie.Else2) → let a = c .before .before .before .before .before .before .before .before .before .before .args in outcomeOf (snapshotAt (a .instant) (slicesOf (table (c .before .before .before .before))) (slicesOf (other (c .before .before .before .before)))) ≡ snapshotOf (a .permanent .now) (a .temporary .now) (a .instant) (a .«record» .now)
+asked : (c : tie.Else2) → let k = c .before .before .before .before in outcomeOf (standing k) ≡ snapshotOf (table k) (other k) (start k .args .instant) (start k .args .«record» .now)
 asked c =
-    let a = c .before .before .before .before .before .before .before .before .before .before .args in
-    left-asked (a .permanent .now) (a .instant) (a .«record» .now) (snapshotAt (a .instant) (slicesOf (a .permanent .now)) (slicesOf (a .temporary .now))) (sym (c .before .before .before .is-none .ensures) ∙ c .before .before .if1 .left) (fits c) ∙ snapshot-left _ _ _ _ (checked (c .before .before .before .before))
+    let k = c .before .before .before .before in
+    left-asked _ _ _ (standing k) (sym (c .before .before .before .is-none .ensures) ∙ c .before .before .if1 .left) (fits c) ∙ snapshot-left _ _ _ _ (checked k)
 
--- what was settled
-abbrev since : tie.After-survey-permanent → Instant
-since c = sinceOf (table (c .before .before .before .before .before)) (c .survey-permanent .result .bases)
+-- what was found, and what that settles
+abbrev told : tie.After-survey-permanent → tie.After-enum-told
+told c = c .before .before .before .before .before
 
-marked : (c : tie.After-survey-permanent) (q : ℕ) → wanted 0 8 q ≡ true → getD (c .survey-permanent .result .latest .marks) q nothing ≡ markDue (latestDue q (since c) (c .before .before .before .before .before .before .before .before .before .before .before .args .instant) (slicesOf (table (c .before .before .before .before .before))))
-marked c = c .survey-permanent .ensures .1 .1 .1
+surveyed : (c : tie.After-survey-permanent) → Surveyed (start (told c) .args .instant) (table (told c)) 0 8 (c .survey-permanent .result)
+surveyed c =
+    let (bases, (openings, (long, marks))) = c .survey-permanent .ensures in
+    record { roomy = roomy (told c); rising = up (told c); bases = bases; openings = openings; long = long; marks = marks }
 
-stood : (c : tie.After-settle) → Settled (since (c .before)) (c .before .before .before .before .before .before .before .before .before .before .before .before .args .instant) (table (c .before .before .before .before .before .before)) (c .settle .result)
-stood c =
-    let s = c .before .survey-permanent in
-    subst (Settled (since (c .before)) (c .before .before .before .before .before .before .before .before .before .before .before .before .args .instant) (table (c .before .before .before .before .before .before))) (sym (c .settle .ensures))
-    (settled (c .before .before .before .before .before .before .before .before .before .before .before .before .args .instant) (table (c .before .before .before .before .before .before)) (roomy (c .before .before .before .before .before .before)) (up (c .before .before .before .before .before .before)) (s .result .bases) (s .result .openings) (s .result .latest .marks) (s .ensures .0) (s .ensures .1 .0) (marked (c .before) 9 (wanted-end 0 8)))
+abbrev Stood : tie.After-survey-permanent → anchor.Standing → Type 0
+Stood k = Settled (sinceOf (table (told k)) (k .survey-permanent .result .bases)) (start (told k) .args .instant) (table (told k))
 
-begun : (c : tie.After-start) → Begun (since (c .before .before .before)) (c .before .before .before .before .before .before .before .before .before .before .before .before .before .before .args .instant) (table (c .before .before .before .before .before .before .before .before)) (c .start .given .0 .0)
-begun c = subst (Settled (since (c .before .before .before)) (c .before .before .before .before .before .before .before .before .before .before .before .before .before .before .args .instant) (table (c .before .before .before .before .before .before .before .before))) (c .start .given .1) (stood (c .before .before))
+stood : (c : tie.After-settle) → Stood (c .before) (c .settle .result)
+stood c = settles _ _ _ _ _ (surveyed (c .before)) _ (c .settle .ensures)
 
--- the snapshot where the permanent state is told
-laid : (c : tie.After-enum-told) (s : Standing) → permanentAt (c .before .before .before .before .before .before .args .instant) (slicesOf (table c)) ≡ s
-    → snapshotAt (c .before .before .before .before .before .before .args .instant) (slicesOf (table c)) (slicesOf (other c)) ≡ overlaid (passing (c .before .before .before .before .before .before .args .instant) (slicesOf (other c))) s
-unfolding snapshotAt
-laid c s e = ap (overlaid (passing (c .before .before .before .before .before .before .args .instant) (slicesOf (other c)))) e
+begun : (c : tie.After-start) → let k = c .before .before .before in Stood k (From (c .start .given .0 .0))
+begun c = subst (Stood (c .before .before .before)) (c .start .given .1) (stood (c .before .before))
 
 returns-2 : tie.Need-returns-2
 returns-2 c =
-    let a = c .before .before .before .before .before .before .before .before .args in
-    (left-none _ _ _ (snapshotAt (a .instant) (slicesOf (a .permanent .now)) (slicesOf (a .temporary .now))) (sym (c .before .is-none .ensures) ∙ c .if1 .taken) ∙ snapshot-left _ _ _ _ (checked (c .before .before)), refl)
+    let k = c .before .before in
+    (left-none _ _ _ (standing k) (sym (c .before .is-none .ensures) ∙ c .if1 .taken) ∙ snapshot-left _ _ _ _ (checked k), refl)
 
 returns-3 : tie.Need-returns-3
 returns-3 c =
-    let a = c .before .before .before .before .before .before .before .before .before .before .args in
-    (left-misfit _ _ _ (snapshotAt (a .instant) (slicesOf (a .permanent .now)) (slicesOf (a .temporary .now))) (sym (c .before .before .before .is-none .ensures) ∙ c .before .before .if1 .left) (λ e. c .if2 .taken (e ∙ sym (ap recordSize (c .before .stride-of .ensures)))) ∙ snapshot-left _ _ _ _ (checked (c .before .before .before .before)), refl)
-
-settle-requires : tie.Need-settle-requires
-settle-requires c κs =
-    let s = c .survey-permanent in
-    (s .ensures .1 .1 .0, (roomy (c .before .before .before .before .before), (rw (s .ensures .0) (few-below (stands (slicesOf (table (c .before .before .before .before .before))) (c .before .before .before .before .before .before .before .before .before .before .before .args .instant)) (table (c .before .before .before .before .before))), rw (s .ensures .1 .0) (few-below (opensDue (since c) (c .before .before .before .before .before .before .before .before .before .before .before .args .instant)) (table (c .before .before .before .before .before))))))
+    let k = c .before .before .before .before in
+    (left-misfit _ _ _ (standing k) (sym (c .before .before .before .is-none .ensures) ∙ c .before .before .if1 .left) (λ e. c .if2 .taken (e ∙ sym (ap recordSize (c .before .stride-of .ensures)))) ∙ snapshot-left _ _ _ _ (checked k), refl)
 
 put-state-requires : tie.Need-put-state-requires
 put-state-requires c κs =
-    let k = c .before .before .before .before .before .before .before in
-    let r = roomy (k .before .before .before .before .before) in
-    let r2 = roomy2 (k .before .before .before .before .before) in (
-      fits (k .before),
+    let v = c .before .before .before .before .before .before .before in
+    let k = told v in (
+      fits (v .before),
       (
-        r,
+        roomy k,
         (
-          r2,
+          roomy2 k,
           (
             begun (c .before .before .before .before) .place,
             (
-              k .survey-permanent .ensures .1 .1 .0,
+              surveyed v .long,
               (
                 c .before .overlay .ensures .0,
-                (λ q h. known-due (since k) (k .before .before .before .before .before .before .before .before .before .before .before .args .instant) (table (k .before .before .before .before .before)) r q _ (marked k q (wanted-in 0 8 q (omega arith) (omega arith))), λ q h. known-valid (k .before .before .before .before .before .before .before .before .before .before .before .args .instant) (other (k .before .before .before .before .before)) r2 q _ (c .before .overlay .ensures .1 q h)),
+                (λ q h. mark-known _ _ _ _ _ (surveyed v) q (omega arith) h, λ q h. known-valid (start k .args .instant) (other k) (roomy2 k) q _ (c .before .overlay .ensures .1 q h)),
               ),
             ),
           ),
@@ -124,19 +124,22 @@ put-state-requires c κs =
 
 returns-4 : tie.Need-returns-4
 returns-4 c =
-    let stands = subst (Settled (since (c .before .before .before .before)) (c .before .before .before .before .before .before .before .before .before .before .before .before .before .before .before .args .instant) (table (c .before .before .before .before .before .before .before .before .before))) (c .before .refusal2 .given .1) (stood (c .before .before .before)) in
-    (sym (ap outcomeOf (laid (c .before .before .before .before .before .before .before .before .before) _ stands)) ∙ asked (c .before .before .before .before .before), refl)
+    let v = c .before .before .before .before in
+    let stands = subst (Stood v) (c .before .refusal2 .given .1) (stood (c .before .before .before)) in
+    (sym (ap outcomeOf (laid (told v) _ stands)) ∙ asked (v .before), refl)
 
 returns-5 : tie.Need-returns-5
 returns-5 c =
-    let k = c .before .before .before .before .before .before .before .before .before .before in
-    let a = c .before .before .before .before .before .before .before .before .before .before .before .before .before .before .before .before .before .before .before .before .before .args in
+    let v = c .before .before .before .before .before .before .before .before .before .before in
+    let k = told v in
+    let a = start k .args in
     let b = begun (c .before .before .before .before .before .before .before) in
-    let e = laid (k .before .before .before .before .before) _ (b .state) in (
-      sym (ap outcomeOf e) ∙ asked (k .before),
+    let o = c .before .before .before .before .overlay in
+    let e = laid k _ (b .state) in (
+      sym (ap outcomeOf e) ∙ asked (v .before),
       c .before .before .put-state .ensures
-          ∙ (snapshot-filled (since k) (a .instant) (table (k .before .before .before .before .before)) (roomy (k .before .before .before .before .before)) (up (k .before .before .before .before .before)) _ b (k .survey-permanent .result .latest .marks) (marked k) (other (k .before .before .before .before .before)) (c .before .before .before .before .overlay .result) (sound2 (k .before .before .before .before .before)) (c .before .before .before .before .overlay .ensures .1)
-          ∙ sym (ap (λ (s : Standing). recordOf (strideOf (table (k .before .before .before .before .before))) (a .instant) s (a .«record» .now)) e)),
+          ∙ (snapshot-filled _ (a .instant) (table k) (roomy k) (up k) _ b (v .survey-permanent .result .latest .marks) (surveyed v .marks) (other k) (o .result) (sound k .1) (o .ensures .1)
+          ∙ sym (ap (λ (s : Standing). recordOf (strideOf (table k)) (a .instant) s (a .«record» .now)) e)),
     )
 
 pub snapshot-spec : {M : Type 1} → statement M
@@ -154,7 +157,7 @@ snapshot-spec =
     (λ c. search needs)
     returns-3
     (λ c κs. (roomy (c .before .before .before .before), (up (c .before .before .before .before), (omega arith, omega arith))))
-    settle-requires
+    (λ c κs. settle-asks _ _ _ _ _ (surveyed c))
     (λ c. search needs)
     (λ c. search needs)
     (λ c κs. roomy2 (c .before .before .before .before .before .before .before .before .before .before))

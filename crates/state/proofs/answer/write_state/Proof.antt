@@ -1,19 +1,19 @@
 -- `state::answer::write_state` meets its contract: past the tests, the survey settles the standing, and what is written is the state's record. Assumes nothing.
 use Prim.Native.Nat.{ℕ}
 use mathlib.Core.Path.{_≡_, refl, sym, ap, subst, _∙_}
-use mathlib.Core.Bool.{true}
 use mathlib.Core.List.{List}
 use native.Mathlib.Omega.{arith}
 use lib.ListN.{length, getD, replicate, getD-replicate}
-use Rattle.numbers.specs.declared.Instant.{Instant}
 use Rattle.slice.specs.Record.{recordSize}
 use Rattle.table.specs.Header.{strideOf}
 use Rattle.history.specs.Anchor.{stands}
 use Rattle.history.specs.Permanent.{Standing, permanentAt}
-use Rattle.history.specs.Parts.{opensDue, latestDue}
 use Rattle.state.specs.Asking.{slicesOf, outcomeOf, recordOf}
-use Rattle.state.specs.Steps.{leftOf, nothing, wanted, markDue, sinceOf}
-use Rattle.state.proofs.Settled.{few-below, wanted-in, wanted-end, known-due, Begun, Settled, settled}
+use Rattle.state.specs.Steps.{leftOf, sinceOf}
+use Rattle.state.specs.declared.anchor.Standing as anchor
+use Rattle.state.specs.declared.anchor.Standing.the-variants.{From}
+use Rattle.state.proofs.Settled.{Settled}
+use Rattle.state.proofs.Surveyed.{Surveyed, settle-asks, settles, mark-known}
 use Rattle.state.proofs.Filled.{state-filled}
 use Rattle.state.proofs.Stages.{left-none, left-misfit, left-asked}
 use borrow.Author.Needs.{needs}
@@ -36,26 +36,21 @@ fits c = c .if2 .left ∙ ap recordSize (c .before .stride-of .ensures)
 asked : (c : tie.Else2) → let s = start c in outcomeOf (standing s) ≡ leftOf (table s) (s .args .instant) (s .args .«record» .now) (standing s)
 asked c = left-asked _ _ _ (standing (start c)) (sym (c .before .before .before .is-none .ensures) ∙ c .before .before .if1 .left) (fits c)
 
--- what was settled
-abbrev since : tie.After-survey-permanent → Instant
-since c = sinceOf (table (start (c .before))) (c .survey-permanent .result .bases)
+-- what was found, and what that settles
+surveyed : (c : tie.After-survey-permanent) → let s = start (c .before) in Surveyed (s .args .instant) (table s) 0 8 (c .survey-permanent .result)
+surveyed c =
+    let s = start (c .before) in
+    let (bases, (openings, (long, marks))) = c .survey-permanent .ensures in
+    record { roomy = s .pre .0; rising = s .pre .1; bases = bases; openings = openings; long = long; marks = marks }
 
-marked : (c : tie.After-survey-permanent) (q : ℕ) → let s = start (c .before) in wanted 0 8 q ≡ true
-    → getD (c .survey-permanent .result .latest .marks) q nothing ≡ markDue (latestDue q (since c) (s .args .instant) (slicesOf (table s)))
-marked c = c .survey-permanent .ensures .1 .1 .1
+abbrev Stood : tie.After-survey-permanent → anchor.Standing → Type 0
+Stood k = let s = start (k .before) in Settled (sinceOf (table s) (k .survey-permanent .result .bases)) (s .args .instant) (table s)
 
-stood : (c : tie.After-settle) → let s = start (c .before .before) in Settled (since (c .before)) (s .args .instant) (table s) (c .settle .result)
-stood c =
-    let v = c .before .survey-permanent in
-    let s = start (c .before .before) in
-    subst (Settled (since (c .before)) (s .args .instant) (table s)) (sym (c .settle .ensures))
-    (settled (s .args .instant) (table s) (s .pre .0) (s .pre .1) (v .result .bases) (v .result .openings) (v .result .latest .marks) (v .ensures .0) (v .ensures .1 .0) (marked (c .before) 9 (wanted-end 0 8)))
+stood : (c : tie.After-settle) → Stood (c .before) (c .settle .result)
+stood c = settles _ _ _ _ _ (surveyed (c .before)) _ (c .settle .ensures)
 
-begun : (c : tie.After-start) → let k = c .before .before .before in let s = start (k .before) in Begun (since k) (s .args .instant) (table s) (c .start .given .0 .0)
-begun c =
-    let k = c .before .before .before in
-    let s = start (k .before) in
-    subst (Settled (since k) (s .args .instant) (table s)) (c .start .given .1) (stood (c .before .before))
+begun : (c : tie.After-start) → let k = c .before .before .before in Stood k (From (c .start .given .0 .0))
+begun c = subst (Stood (c .before .before .before)) (c .start .given .1) (stood (c .before .before))
 
 returns-2 : tie.Need-returns-2
 returns-2 c =
@@ -64,12 +59,6 @@ returns-2 c =
 
 survey-permanent-requires : tie.Need-survey-permanent-requires
 survey-permanent-requires c κs = let s = start c in (s .pre .0, (s .pre .1, (omega arith, omega arith)))
-
-settle-requires : tie.Need-settle-requires
-settle-requires c κs =
-    let v = c .survey-permanent in
-    let s = start (c .before) in
-    (v .ensures .1 .1 .0, (s .pre .0, (rw (v .ensures .0) (few-below (stands (slicesOf (table s)) (s .args .instant)) (table s)), rw (v .ensures .1 .0) (few-below (opensDue (since c) (s .args .instant)) (table s)))))
 
 put-state-requires : tie.Need-put-state-requires
 put-state-requires c κs =
@@ -87,7 +76,7 @@ put-state-requires c κs =
               k .survey-permanent .ensures .1 .1 .0,
               (
                 refl,
-                (λ q h. known-due (since k) (s .args .instant) (table s) r q _ (marked k q (wanted-in 0 8 q (omega arith) (omega arith))), λ q h. rw (getD-replicate {A = ℕ} 8 q 0 0 h) (omega arith)),
+                (λ q h. mark-known _ _ _ _ _ (surveyed k) q (omega arith) h, λ q h. rw (getD-replicate {A = ℕ} 8 q 0 0 h) (omega arith)),
               ),
             ),
           ),
@@ -99,7 +88,7 @@ returns-3 : tie.Need-returns-3
 returns-3 c =
     let k = c .before .before .before .before in
     let s = start (k .before) in
-    let stands = subst (Settled (since k) (s .args .instant) (table s)) (c .before .refusal .given .1) (stood (c .before .before .before)) in
+    let stands = subst (Stood k) (c .before .refusal .given .1) (stood (c .before .before .before)) in
     (sym (ap outcomeOf stands) ∙ asked (k .before), refl)
 
 returns-4 : tie.Need-returns-4
@@ -109,7 +98,7 @@ returns-4 c =
     let b = begun (c .before .before .before .before .before .before) in (
       sym (ap outcomeOf (b .state)) ∙ asked (k .before),
       c .before .before .put-state .ensures
-          ∙ (state-filled (since k) (s .args .instant) (table s) (s .pre .0) (s .pre .1) _ b (k .survey-permanent .result .latest .marks) (marked k) (table s) (replicate {A = ℕ} 8 0) (λ q h. getD-replicate {A = ℕ} 8 q 0 0 h)
+          ∙ (state-filled _ (s .args .instant) (table s) (s .pre .0) (s .pre .1) _ b (k .survey-permanent .result .latest .marks) (surveyed k .marks) (table s) (replicate {A = ℕ} 8 0) (λ q h. getD-replicate {A = ℕ} 8 q 0 0 h)
           ∙ sym (ap (λ (v : Standing). recordOf (strideOf (table s)) (s .args .instant) v (s .args .«record» .now)) (b .state))),
     )
 
@@ -124,7 +113,7 @@ write-state-spec =
     (λ c. search needs)
     returns-2
     survey-permanent-requires
-    settle-requires
+    (λ c κs. settle-asks _ _ _ _ _ (surveyed c))
     (λ c. search needs)
     (λ c. search needs)
     put-state-requires
