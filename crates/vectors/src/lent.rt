@@ -91,11 +91,7 @@ pub fn write(s: &mut [u8], line: &[u8]) {
 // Makes s start with the bytes of r, as many as s has room for, and answers how many these are.
 pub fn keep(s: &mut [u8], r: &[u8]) -> usize {
     let n = within(s, r.len());
-    let mut i = 0;
-    while i < n {
-        s[i] = octets::byte(r, i);
-        i += 1;
-    }
+    octets::put(s, 0, front(r, n));
     n
 }
 

@@ -83,6 +83,23 @@ struct Used {
     answers: usize,
 }
 
+// Nothing is in use before the first command. The other table has its place behind the table.
+fn unused() -> Used {
+    Used {
+        buffer: 0,
+        feature: 0,
+        at: 0,
+        table: 0,
+        other_at: 65536,
+        other: 0,
+        before: 0,
+        record: 0,
+        output: 0,
+        instant: 0,
+        answers: 0,
+    }
+}
+
 // Makes the buffer or the feature as a letter that does so says.
 fn make(letter: u8, line: &[u8], buffer: &mut [u8], feature: &mut [u8], used: Used) -> Used {
     let mut next = used;
@@ -350,19 +367,7 @@ fn run(
 ) -> usize
     ensures { λ r. ⌜ r ≤ length (now (out .exit)) ⌝ }
 {
-    let mut used = Used {
-        buffer: 0,
-        feature: 0,
-        at: 0,
-        table: 0,
-        other_at: 65536,
-        other: 0,
-        before: 0,
-        record: 0,
-        output: 0,
-        instant: 0,
-        answers: 0,
-    };
+    let mut used = unused();
     let mut at = 0;
     while at < input.len() {
         let end = bytes::scan::find(input, at, input.len(), b'\n');
