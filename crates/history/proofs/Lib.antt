@@ -11,3 +11,4 @@ pub mod Steady
 pub mod ReadBack
 pub mod Again
 pub mod Onward
+pub mod Drawn

@@ -28,7 +28,7 @@ Within slices (opened o) = In o slices × (counts permdelta o ≡ true)
 Within slices nowhere = Unit {0}
 Within slices two = Unit {0}
 
-only-within : (slices : List Slice) (at : Slice → Anchor) (otherwise : Anchor) (l : List Slice) → ((x : Slice) → In x l → Within slices (at x))
+pub only-within : (slices : List Slice) (at : Slice → Anchor) (otherwise : Anchor) (l : List Slice) → ((x : Slice) → In x l → Within slices (at x))
     → Within slices otherwise → Within slices (only at otherwise l)
 only-within slices at otherwise [] f w = w
 only-within slices at otherwise (x ∷ []) f w = f x (inl refl)

@@ -180,7 +180,7 @@ unless-known t s' s =
     pick-ind (λ v. v ≡ known s → withdrawn t s ≡ false) (withdrawn t s') (λ _ e. absurd (known-apart 22 s e))
     (λ n e. ap (withdrawn t) (known-same false s s' e) ∙ n)
 
-known-stays : (t : Instant) (slices : List Slice) (s : State) → permanentAt t slices ≡ known s → withdrawn t s ≡ false
+pub known-stays : (t : Instant) (slices : List Slice) (s : State) → permanentAt t slices ≡ known s → withdrawn t s ≡ false
 unfolding permanentAt reached
 known-stays t slices s = go (anchor t slices)
   where
