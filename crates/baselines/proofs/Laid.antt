@@ -70,7 +70,7 @@ module _ (stride : ℕ) where
         let l : length (joined parts) ≡ 8 * stride = joined-length stride parts sized ∙ ap (λ (n : ℕ). n * stride) parts-eight in
         omega arith
 
-    parts-of : partsOf stride (recordFor stride s) ≡ parts
+    pub parts-of : partsOf stride (recordFor stride s) ≡ parts
     unfolding recordFor propertiesOf
     parts-of =
         ap (pieces stride 8) (sym (append-nil (joined parts)))

@@ -12,4 +12,5 @@ pub mod Noted
 pub mod Reached
 pub mod DerivedTable
 pub mod ReadBack
+pub mod Passes
 pub mod OneAnswer

@@ -76,7 +76,7 @@ module _ (p : List ℕ) (bytes : Bytes p) (sound : checkTable Permanent p ≡ So
       let (x, i, q) = map-in propertyOf (partsOf (strideOf p) r) (says b) (subst (λ s. In (says b) (s .properties)) e k) in
       said-mention x b (mentioned x) refl q
 
-  counted-right : (d : Slice) → In d slices → d .cancelled ≡ false → timesRight d ≡ true
+  pub counted-right : (d : Slice) → In d slices → d .cancelled ≡ false → timesRight d ≡ true
   unfolding viewOf
   counted-right d m c =
       let (r, n, e) = slice-view p d m in
@@ -130,7 +130,7 @@ module _ (p : List ℕ) (bytes : Bytes p) (sound : checkTable Permanent p ≡ So
   filled-said unmentioned h = (unknown, refl, refl, refl)
   filled-said (says b) h = (b, refl, h b refl .0, h b refl .1)
 
-  baseline-holdable : (n : ℕ) (s : Stretch) → n < 4294967296 → In s (stretches slices) → Holdable (strideOf p) (baselineOf unknown n s)
+  pub baseline-holdable : (n : ℕ) (s : Stretch) → n < 4294967296 → In s (stretches slices) → Holdable (strideOf p) (baselineOf unknown n s)
   unfolding stretches baselineOf
   baseline-holdable n s k m =
       let h = stretched slices (changeInstants slices) s m in

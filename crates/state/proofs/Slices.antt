@@ -77,7 +77,7 @@ module _ (stride : ℕ) where
 
 -- ---- the properties of a view
 -- one that says bytes says its own
-said : (c : Bool) (b x : List ℕ) → says b ≡ cond c (says x) unmentioned → b ≡ x
+pub said : (c : Bool) (b x : List ℕ) → says b ≡ cond c (says x) unmentioned → b ≡ x
 said true b x e = cc
 said false b x e = cc
 
