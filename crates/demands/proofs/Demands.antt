@@ -28,6 +28,7 @@ use Rattle.baselines.specs.Deriving.{derivedRecords, refusedDerivation, derivat
 use Rattle.baselines.specs.declared.derivation.Derivation.the-variants as derivation
 use Rattle.baselines.proofs.DerivedTable.{derived-told, derived-sound, derived-feature, derived-counts}
 use Rattle.baselines.proofs.ReadBack.{back-written, back-refused, never-two, again}
+use Rattle.baselines.proofs.Passes as passes
 use Rattle.demands.specs.Refused.{RefusedBy, arrivalTests, stateTests, snapshotTests, propertyTests, derivedTests}
 use Rattle.demands.proofs.Numbers.{creation-numbered, arrival-numbered, state-numbered, snapshot-numbered, property-numbered, derived-numbered}
 
@@ -68,8 +69,11 @@ module _ (f : Refusal) (t s p o output buffer feature : List ℕ) (side : ℕ) (
   pub derivation-kept : afterDeriving (derivation.Refused f) p output ≡ output
   derivation-kept = refl
 
--- ==== DEMAND 2. Derived baselines, where the derivation is not refused: p are the bytes of a permanent table, of which n baselines are
--- derived into the output
+-- ==== DEMAND 2. Derived baselines. None fails the slice check: no derivation is refused with 24 ...
+pub never-24 : (p output : List ℕ) → Bytes p → derivationOf p output ≡ refusedDerivation 24 → ⊥
+never-24 = passes.never-24
+
+-- ... and where it is not refused: p are the bytes of a permanent table, of which n baselines are derived into the output
 module _ (p output : List ℕ) (n : ℕ) (bytes : Bytes p) (e : derivationOf p output ≡ derivation.Derived n) where
   abbrev derived : List ℕ
   derived = afterDeriving (derivation.Derived n) p output
