@@ -1,7 +1,7 @@
 -- The derivation, test by test: what is left to answer behind each. Assumes nothing.
 use Prim.Native.Nat.{ℕ, _≤_, _<_}
 use mathlib.Core.Path.{_≡_, refl, sym, ap, _∙_}
-use mathlib.Core.Bool.{Bool, true, false, not, cond, true≢false}
+use mathlib.Core.Bool.{Bool, true, false, cond, true≢false}
 use mathlib.Core.List.{List}
 use lib.ListN.{length}
 use borrow.Author.Tests.{lt-ltb, le-ltb}
@@ -25,35 +25,28 @@ use Rattle.baselines.specs.declared.drawing.Drawn.the-variants.{Two, Rec
 -- ---- what the walk tells
 abbrev isTwo : Drawn → Bool
 isTwo Two = true
-isTwo (Records n s) = false
+isTwo (Records n) = false
 
 abbrev countIn : Drawn → ℕ
 countIn Two = 0
-countIn (Records n s) = n
+countIn (Records n) = n
 
-abbrev soundIn : Drawn → Bool
-soundIn Two = false
-soundIn (Records n s) = s
+drawn-two : (b : Bool) (m : ℕ) → cond b Two (Records m) ≡ Two → b ≡ true
+drawn-two true m e = refl
+drawn-two false m e = absurd (true≢false (sym (ap isTwo e)))
 
-drawn-two : (b : Bool) (m : ℕ) (t : Bool) → cond b Two (Records m t) ≡ Two → b ≡ true
-drawn-two true m t e = refl
-drawn-two false m t e = absurd (true≢false (sym (ap isTwo e)))
-
-drawn-records : (b : Bool) (m : ℕ) (t : Bool) (n : ℕ) (s : Bool) → cond b Two (Records m t) ≡ Records n s → (b ≡ false) × (n ≡ m) × (s ≡ t)
-drawn-records true m t n s e = absurd (true≢false (ap isTwo e))
-drawn-records false m t n s e = (refl, sym (ap countIn e), sym (ap soundIn e))
+drawn-records : (b : Bool) (m n : ℕ) → cond b Two (Records m) ≡ Records n → (b ≡ false) × (n ≡ m)
+drawn-records true m n e = absurd (true≢false (ap isTwo e))
+drawn-records false m n e = (refl, sym (ap countIn e))
 
 module _ (p : List ℕ) where
-  abbrev unsound : Bool
-  unsound = any (fails (strideOf p) permanent) (derivedRecords p)
-
   pub told-two : drawnOf p ≡ Two → twoAnchors (slicesOf p) ≡ true
   unfolding drawnOf
-  told-two = drawn-two (twoAnchors (slicesOf p)) (length (derivedRecords p)) (not unsound)
+  told-two = drawn-two (twoAnchors (slicesOf p)) (length (derivedRecords p))
 
-  pub told-records : (n : ℕ) (s : Bool) → drawnOf p ≡ Records n s → (twoAnchors (slicesOf p) ≡ false) × (n ≡ length (derivedRecords p)) × (s ≡ not unsound)
+  pub told-records : (n : ℕ) → drawnOf p ≡ Records n → (twoAnchors (slicesOf p) ≡ false) × (n ≡ length (derivedRecords p))
   unfolding drawnOf
-  told-records = drawn-records (twoAnchors (slicesOf p)) (length (derivedRecords p)) (not unsound)
+  told-records = drawn-records (twoAnchors (slicesOf p)) (length (derivedRecords p))
 
 -- ---- the tests in their order
 module _ (p output : List ℕ) where
@@ -70,16 +63,11 @@ module _ (p output : List ℕ) where
     unfolding derivingTests
     two-refused t = sym (left ∙ rw t)
 
-    module _ (one : twoAnchors (slicesOf p) ≡ false) where
-      pub unsound-refused : unsound p ≡ true → refusedDerivation 24 ≡ derivationOf p output
+    module _ (one : twoAnchors (slicesOf p) ≡ false) (sound : any (fails (strideOf p) permanent) (derivedRecords p) ≡ false) where
+      pub many-refused : 256 < length (derivedRecords p) → refusedDerivation 23 ≡ derivationOf p output
       unfolding derivingTests
-      unsound-refused u = sym (left ∙ rw (one, u))
+      many-refused h = sym (left ∙ rw (one, sound, lt-ltb _ _ h))
 
-      module _ (sound : unsound p ≡ false) where
-        pub many-refused : 256 < length (derivedRecords p) → refusedDerivation 23 ≡ derivationOf p output
-        unfolding derivingTests
-        many-refused h = sym (left ∙ rw (one, sound, lt-ltb _ _ h))
-
-        pub few-left : length (derivedRecords p) ≤ 256 → handedOf p output ≡ derivationOf p output
-        unfolding derivingTests handedOf
-        few-left h = sym (left ∙ rw (one, sound, le-ltb _ _ h))
+      pub few-left : length (derivedRecords p) ≤ 256 → handedOf p output ≡ derivationOf p output
+      unfolding derivingTests handedOf
+      few-left h = sym (left ∙ rw (one, sound, le-ltb _ _ h))

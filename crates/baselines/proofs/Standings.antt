@@ -2,20 +2,18 @@
 use Prim.Native.Nat.{ℕ, _≤_}
 use mathlib.Core.Path.{_≡_, refl, sym, ap, _∙_}
 use mathlib.Core.List.{List}
-use mathlib.Core.Bool.{Bool, true, false, not, true≢false}
+use mathlib.Core.Bool.{Bool, true, false, true≢false}
 use native.Mathlib.Omega.{arith}
 use lib.ListN.{length}
 use lib.Dec.{eqb}
 use Rattle.laws.proofs.Tests.{contrary}
 use Rattle.numbers.specs.Numbers.{isNone}
 use Rattle.numbers.specs.declared.Instant.{Instant}
-use Rattle.slice.specs.Record.{permanent, recordSize}
-use Rattle.slice.specs.Check.{checkRecord}
+use Rattle.slice.specs.Record.{recordSize}
 use Rattle.slice.specs.declared.check.Refusal.{Refusal}
-use Rattle.slice.specs.declared.check.Checked.{Checked}
-use Rattle.slice.specs.declared.check.Checked.the-variants.{Sound, Refused}
+use Rattle.slice.specs.declared.check.Checked.the-variants.{Sound}
 use Rattle.table.specs.Header.{strideOf}
-use Rattle.table.specs.Rules.{isRefused, fails, checkOrder}
+use Rattle.table.specs.Rules.{checkOrder}
 use Rattle.history.specs.State.{State}
 use Rattle.history.specs.Permanent.{Standing, refuses, known, permanentAt}
 use Rattle.history.specs.Derived.{hasTwo}
@@ -24,7 +22,7 @@ use Rattle.state.specs.declared.answer.Outcome.{Outcome}
 use Rattle.state.specs.declared.answer.Outcome.the-variants as outcome
 use Rattle.state.proofs.Stages.{order-left, left-asked}
 use Rattle.baselines.specs.Carried.{Shows, Left}
-use Rattle.baselines.specs.Steps.{drawnRecord, stepOf}
+use Rattle.baselines.specs.Steps.{stepOf}
 use Rattle.baselines.specs.declared.drawing.Step.{Step}
 
 abbrev numberIn : Outcome → ℕ
@@ -47,19 +45,6 @@ told-written (known s) e = (s, refl)
 module _ (p : List ℕ) (at : Instant) (buffer : List ℕ) (order : checkOrder p ≡ Sound) (at-given : isNone at ≡ false) (fits : length buffer ≡ recordSize (strideOf p)) where
   pub answered : stateAtOf p at buffer ≡ outcomeOf (permanentAt at (slicesOf p))
   answered = sym (left-asked p at buffer (permanentAt at (slicesOf p)) at-given fits ∙ order-left p at buffer order)
-
--- ---- a record that was drawn
-module _ (stride n : ℕ) (begin end : Instant) (s : State) (v : Standing) (told : v ≡ known s) where
-  abbrev step : Bool → Step
-  step sound = record { two = false; records = 1; sound = sound }
-
-  pub step-sound : checkRecord stride permanent (drawnRecord stride n begin end s) ≡ Sound → step true ≡ stepOf stride n begin end v
-  unfolding fails
-  step-sound e = sym (ap (stepOf stride n begin end) told ∙ ap (λ (c : Checked). step (not (isRefused c))) e)
-
-  pub step-unsound : (f : Refusal) → checkRecord stride permanent (drawnRecord stride n begin end s) ≡ Refused f → step false ≡ stepOf stride n begin end v
-  unfolding fails
-  step-unsound f e = sym (ap (stepOf stride n begin end) told ∙ ap (λ (c : Checked). step (not (isRefused c))) e)
 
 -- ---- what a step tells of the standing
 module _ (stride n : ℕ) (begin end : Instant) {step : Step} where

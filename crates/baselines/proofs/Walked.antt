@@ -2,7 +2,7 @@
 use Prim.Native.Nat.{ℕ, suc, _+_, _*_, _≤_, _<_, min}
 use mathlib.Core.Path.{_≡_, refl, sym, ap, _∙_}
 use mathlib.Core.List.{List, [], _∷_, _++_, map, append-assoc, append-nil}
-use mathlib.Core.Bool.{Bool, true, false, not, _&&_, _||_, and-true}
+use mathlib.Core.Bool.{Bool, true, false}
 use mathlib.Core.Logic.{inl, inr}
 use lib.Dec.{ltb}
 use native.Mathlib.Nat.{add-zero}
@@ -17,9 +17,8 @@ use Rattle.laws.proofs.Pieces.{joined-append}
 use Rattle.numbers.specs.Numbers.{noInstant, none, isNone}
 use Rattle.numbers.specs.declared.Instant.{Instant}
 use Rattle.numbers.proofs.Facts.{none-false}
-use Rattle.slice.specs.Record.{permanent, recordSize}
+use Rattle.slice.specs.Record.{recordSize}
 use Rattle.table.specs.Header.{strideOf}
-use Rattle.table.specs.Rules.{fails}
 use Rattle.history.specs.Anchor.{stands}
 use Rattle.history.specs.State.{State}
 use Rattle.history.specs.Permanent.{Standing, refuses, known, permanentAt}
@@ -35,48 +34,29 @@ use Rattle.baselines.specs.Steps.{changeSince, drawnRecord, stepOf, afte
 use Rattle.baselines.specs.declared.drawing.Step.{Step}
 use Rattle.baselines.specs.declared.drawing.Drawn.the-variants.{Records}
 
--- a test of some behind others
-module _ {A : Type 0} (test : A → Bool) where
-  not-any-snoc : (l : List A) (x : A) → not (any test (l ++ (x ∷ []))) ≡ (not (any test l) && not (test x))
-  not-any-snoc [] x = one (test x)
-    where
-      one : (b : Bool) → not (b || false) ≡ not b
-      one true = refl
-      one false = refl
-  not-any-snoc (y ∷ l) x = go (test y) (not-any-snoc l x)
-    where
-      go : (b : Bool) → not (any test (l ++ (x ∷ []))) ≡ (not (any test l) && not (test x))
-          → not (b || any test (l ++ (x ∷ []))) ≡ (not (b || any test l) && not (test x))
-      go true e = refl
-      go false e = e
-
 module _ (p : List ℕ) where
   abbrev size : ℕ
   size = recordSize (strideOf p)
-
-  abbrev unsound : List ℕ → Bool
-  unsound = fails (strideOf p) permanent
 
   -- the records of some change instants, the first with a sequence number
   abbrev drawnFrom : ℕ → List Instant → List (List ℕ)
   drawnFrom n ts = map (recordFor (strideOf p)) (numberedFrom (nilUnknown (strideOf p)) n (stretchesFrom (slicesOf p) ts))
 
-  -- the walk has come to an instant; so many records are drawn, and each or not each is sound
-  pub record Walked (drawn : List ℕ) (begin : Instant) (count : ℕ) (sound : Bool) : Type 0 where
+  -- the walk has come to an instant, and so many records are drawn
+  pub record Walked (drawn : List ℕ) (begin : Instant) (count : ℕ) : Type 0 where
     pub since : Instant
     pub done : List (List ℕ)
     pub here : begin ≡ nextOf (later (slicesOf p) since)
     pub all : derivedRecords p ≡ done ++ drawnFrom (suc (length done)) (later (slicesOf p) since)
     pub two : twoAnchors (slicesOf p) ≡ any (λ t. hasTwo (permanentAt t (slicesOf p))) (later (slicesOf p) since)
     pub counted : count ≡ length done
-    pub checked : sound ≡ not (any unsound done)
     pub held : count ≤ 256 → take (count * size) drawn ≡ joined done
     pub sized : length drawn ≡ 257 * size
     pub most : count ≤ begin .0
     pub below : begin .0 ≤ noInstant
 
   module _ (low : Bounded (slicesOf p)) where
-    pub walked-none : (drawn : List ℕ) (begin : Instant) → length drawn ≡ 257 * size → begin ≡ changeSince (record { 0 = 0 }) p → Walked drawn begin 0 true
+    pub walked-none : (drawn : List ℕ) (begin : Instant) → length drawn ≡ 257 * size → begin ≡ changeSince (record { 0 = 0 }) p → Walked drawn begin 0
     unfolding changeSince derivedRecords derivedBaselines stretches twoAnchors
     walked-none drawn begin l e =
         let w = walk-all (slicesOf p) in
@@ -87,7 +67,6 @@ module _ (p : List ℕ) where
           all = ap (drawnFrom 1) (sym w);
           two = ap (any (λ t. hasTwo (permanentAt t (slicesOf p)))) (sym w);
           counted = refl;
-          checked = refl;
           held = λ _. refl;
           sized = l;
           most = omega arith;
@@ -95,7 +74,7 @@ module _ (p : List ℕ) where
         }
 
     -- ---- one turn, where the walk has not ended
-    module _ (drawn : List ℕ) (begin : Instant) (count : ℕ) (sound : Bool) (w : Walked drawn begin count sound) (go : isNone begin ≡ false) where
+    module _ (drawn : List ℕ) (begin : Instant) (count : ℕ) (w : Walked drawn begin count) (go : isNone begin ≡ false) where
       ahead : later (slicesOf p) (w .since) ≡ begin ∷ later (slicesOf p) (justAfter begin)
       ahead =
           walk-next (slicesOf p) (w .since) (rw (← w .here) go)
@@ -115,7 +94,7 @@ module _ (p : List ℕ) where
         pub falls : begin .0 < end .0
         falls = omega (arith, on .0)
 
-        pub walked-past : (k : ℕ) → permanentAt begin (slicesOf p) ≡ refuses k → hasTwo (refuses k) ≡ false → Walked drawn end count sound
+        pub walked-past : (k : ℕ) → permanentAt begin (slicesOf p) ≡ refuses k → hasTwo (refuses k) ≡ false → Walked drawn end count
         unfolding changeSince
         walked-past k v n = record {
           since = justAfter begin;
@@ -124,7 +103,6 @@ module _ (p : List ℕ) where
           all = w .all ∙ ap (λ (l : List (List ℕ)). w .done ++ l) (ap (drawnFrom (suc (length (w .done)))) ahead ∙ gone (suc (length (w .done))));
           two = w .two ∙ ap (any (λ t. hasTwo (permanentAt t (slicesOf p)))) ahead ∙ rw (v, n);
           counted = w .counted;
-          checked = w .checked;
           held = w .held;
           sized = w .sized;
           most = omega (arith, w .most, on .0);
@@ -137,7 +115,7 @@ module _ (p : List ℕ) where
         pub walked-on : (drawn' : List ℕ) (s : State) → permanentAt begin (slicesOf p) ≡ known s → length drawn' ≡ 257 * size
             → let r = drawnRecord (strideOf p) (count + 1) begin end s in
             (count < 256 → take ((count + 1) * size) drawn' ≡ take (count * size) drawn ++ r)
-            → Walked drawn' end (count + 1) (sound && not (unsound r))
+            → Walked drawn' end (count + 1)
         unfolding changeSince drawnRecord
         walked-on drawn' s v l h =
             let r = drawnRecord (strideOf p) (count + 1) begin end s in
@@ -152,7 +130,6 @@ module _ (p : List ℕ) where
                   ∙ ap (λ (m : ℕ). (w .done ++ (r ∷ [])) ++ drawnFrom (suc m) (later (slicesOf p) (justAfter begin))) (sym n);
               two = w .two ∙ ap (any (λ t. hasTwo (permanentAt t (slicesOf p)))) ahead ∙ rw v;
               counted = c ∙ sym n;
-              checked = ap (λ (b : Bool). b && not (unsound r)) (w .checked) ∙ sym (not-any-snoc unsound (w .done) r);
               held = λ k. h (omega arith) ∙ ap (λ (l : List ℕ). l ++ r) (w .held (omega arith)) ∙ sym (joined-append size (w .done) (r ∷ []) ∙ ap (λ (l : List ℕ). joined (w .done) ++ l) (append-nil r));
               sized = l;
               most = omega (arith, w .most, on .0);
@@ -175,9 +152,9 @@ module _ (p : List ℕ) where
         pub turned : (from k : ℕ) (last : List ℕ) (step : Step) → from ≡ min count 256 * size → k ≡ size → length last ≡ length (midOf from k drawn)
             → (v : Standing) → permanentAt begin (slicesOf p) ≡ v → step ≡ stepOf (strideOf p) (count + 1) begin end v
             → last ≡ afterStep (strideOf p) (count + 1) begin end v (midOf from k drawn) → step .two ≡ false
-            → Walked (putMid from k drawn last) end (count + step .records) (sound && step .sound)
+            → Walked (putMid from k drawn last) end (count + step .records)
         turned from k last step q t l (refuses n) at e′ f two =
-            rw (f, put-same from k drawn, e′, add-zero count, and-true sound) (walked-past n at (ap (λ (s : Step). s .two) (sym e′) ∙ two))
+            rw (f, put-same from k drawn, e′, add-zero count) (walked-past n at (ap (λ (s : Step). s .two) (sym e′) ∙ two))
         turned from k last step q t l (known s) at e′ f two =
             rw e′
             (walked-on (putMid from k drawn last) s at (same-len-mid from k drawn last l ∙ w .sized)
@@ -198,11 +175,10 @@ module _ (p : List ℕ) where
       inr (begin, l, λ x m h. by-test (ltb (begin .0) (x .0)) (λ y. absurd (omega (tests, ap (λ (t : Instant). t .0) e, later-least (slicesOf p) (justAfter begin) x m (omega tests)))) (λ n. omega tests), left, bare)
 
   -- ---- the end of the walk
-  pub walked-all : (drawn : List ℕ) (begin : Instant) (count : ℕ) (sound : Bool) → Walked drawn begin count sound → isNone begin ≡ true
-      → (Records count sound ≡ drawnOf p) × Drew (Records count sound) p drawn
+  pub walked-all : (drawn : List ℕ) (begin : Instant) (count : ℕ) → Walked drawn begin count → isNone begin ≡ true → (Records count ≡ drawnOf p) × Drew (Records count) p drawn
   unfolding drawnOf
-  walked-all drawn begin count sound w e =
+  walked-all drawn begin count w e =
       let none : later (slicesOf p) (w .since) ≡ [] = walk-end (slicesOf p) (w .since) (rw (← w .here) e) in
       let all : derivedRecords p ≡ w .done = w .all ∙ ap (λ (l : List Instant). w .done ++ drawnFrom (suc (length (w .done))) l) none ∙ append-nil (w .done) in
       let two : twoAnchors (slicesOf p) ≡ false = w .two ∙ ap (any (λ t. hasTwo (permanentAt t (slicesOf p)))) none in
-      (sym (rw (two, all, ← w .counted, ← w .checked)), λ k. w .held k ∙ ap joined (sym all))
+      (sym (rw (two, all, ← w .counted)), λ k. w .held k ∙ ap joined (sym all))

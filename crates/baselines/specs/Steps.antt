@@ -1,16 +1,15 @@
 -- What the steps of a derivation answer. No public promise cites this file. Assumes nothing.
 use Prim.Native.Nat.{ℕ, _+_, _*_, _≤_}
 use mathlib.Core.Path.{_≡_}
-use mathlib.Core.Bool.{true, false, cond, not}
+use mathlib.Core.Bool.{false, cond}
 use mathlib.Core.List.{List}
 use lib.ListN.{length, take}
 use lib.Dec.{eqb, ltb}
-use Rattle.laws.specs.Lists.{any, kept, joined}
+use Rattle.laws.specs.Lists.{kept, joined}
 use Rattle.numbers.specs.Numbers.{atMost}
 use Rattle.numbers.specs.declared.Instant.{Instant}
-use Rattle.slice.specs.Record.{permanent, recordSize}
+use Rattle.slice.specs.Record.{recordSize}
 use Rattle.table.specs.Header.{strideOf}
-use Rattle.table.specs.Rules.{fails}
 use Rattle.history.specs.Permanent.{Standing, refuses, known}
 use Rattle.history.specs.Changes.{changeInstants, nextOf}
 use Rattle.history.specs.Derived.{twoAnchors, baselineOf}
@@ -34,10 +33,10 @@ unfoldable pub drawnRecord : ℕ → ℕ → Instant → Instant → State → L
 drawnRecord stride n begin end s =
     recordFor stride (baselineOf (nilUnknown stride) n (record { period = record { begin = begin; end = end }; state = s }))
 
--- one change instant: whether it has two anchors, how many records it gives, and whether they pass the slice check
+-- one change instant: whether it has two anchors, and how many records it gives
 abbrev pub stepOf : ℕ → ℕ → Instant → Instant → Standing → Step
-stepOf stride n begin end (refuses k) = record { two = eqb k 21; records = 0; sound = true }
-stepOf stride n begin end (known s) = record { two = false; records = 1; sound = not (fails stride permanent (drawnRecord stride n begin end s)) }
+stepOf stride n begin end (refuses k) = record { two = eqb k 21; records = 0 }
+stepOf stride n begin end (known s) = record { two = false; records = 1 }
 
 -- the record's bytes after it
 abbrev pub afterStep : ℕ → ℕ → Instant → Instant → Standing → List ℕ → List ℕ
@@ -46,14 +45,12 @@ afterStep stride n begin end (known s) buffer = drawnRecord stride n begin end s
 
 -- all change instants
 unfoldable pub drawnOf : List ℕ → Drawn
-drawnOf p =
-    cond (twoAnchors (slicesOf p)) Two
-    (Records (length (derivedRecords p)) (not (any (fails (strideOf p) permanent) (derivedRecords p))))
+drawnOf p = cond (twoAnchors (slicesOf p)) Two (Records (length (derivedRecords p)))
 
 -- the buffer after that: it begins with the records, where a table has room for so many
 abbrev pub Drew : Drawn → List ℕ → List ℕ → Type 0
 Drew Two p d = Unit {0}
-Drew (Records n s) p d = n ≤ 256 → take (n * recordSize (strideOf p)) d ≡ joined (derivedRecords p)
+Drew (Records n) p d = n ≤ 256 → take (n * recordSize (strideOf p)) d ≡ joined (derivedRecords p)
 
 -- the last test: the output does not hold the records
 unfoldable pub handedOf : List ℕ → List ℕ → Derivation

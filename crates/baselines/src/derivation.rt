@@ -54,8 +54,9 @@ fn hand_over(permanent: &[u8], drawn: &[u8], count: usize, output: &mut [u8]) ->
 
 // Derives the baselines of a permanent table: one BASELINE for each change instant that has a permanent
 // state, until the next one, as a permanent table of the same feature. Answers their number. Refused, with
-// every byte as it was: 1 to 7 for the table, 21 for two anchors at a change instant, 24 for a derived
-// record that fails the slice check, 23 for over 256 records or more than the output holds.
+// every byte as it was: 1 to 7 for the table, 21 for two anchors at a change instant, 23 for over 256
+// records or more than the output holds. No derived record fails the slice check, 24, which is proved and
+// so not looked at.
 pub fn derive(permanent: &[u8], output: &mut [u8]) -> Derivation
     ensures answer { λ r. ⌜ r ≡ derivationOf (now (permanent .entry)) (now (output .entry)) ⌝ }
     ensures buffer { λ r. ⌜ now (output .exit) ≡ afterDeriving r (now (permanent .entry)) (now (output .entry)) ⌝ }
@@ -66,10 +67,7 @@ pub fn derive(permanent: &[u8], output: &mut [u8]) -> Derivation
     let mut drawn = [0u8; 57568];
     match draw_all(permanent, &mut drawn) {
         Drawn::Two => Derivation::Refused(Refusal { number: 21 }),
-        Drawn::Records(count, sound) => {
-            if !sound {
-                return Derivation::Refused(Refusal { number: 24 });
-            }
+        Drawn::Records(count) => {
             if 256 < count {
                 return Derivation::Refused(Refusal { number: 23 });
             }

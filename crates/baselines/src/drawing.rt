@@ -25,25 +25,19 @@ use numbers::Instant;
 use numbers::SequenceNumber;
 use octets::put;
 use octets::put32;
-use slice::Checked;
-use slice::PERMANENT;
-use slice::check_record;
 use state::Outcome;
 use table::stride_of;
 
-// What one change instant gives: whether it has two anchors, how many records, and whether they pass the
-// slice check.
+// What one change instant gives: whether it has two anchors, and how many records.
 pub struct Step {
     pub two: bool,
     pub records: usize,
-    pub sound: bool,
 }
 
-// What all change instants give: two anchors at one of them, or how many records, and whether each passes
-// the slice check.
+// What all change instants give: two anchors at one of them, or how many records.
 pub enum Drawn {
     Two,
-    Records(usize, bool),
+    Records(usize),
 }
 
 // Makes the record of a state that of a BASELINE: its kind, its sequence number, its begin and its end.
@@ -76,19 +70,13 @@ fn draw(
         return Step {
             two: refusal.number == 21,
             records: 0,
-            sound: true,
         };
     }
     put(record, 0, current);
     put_front(record, sequence, begin, end);
-    let mut sound = false;
-    if let Checked::Sound = check_record(record, stride, PERMANENT) {
-        sound = true;
-    }
     Step {
         two: false,
         records: 1,
-        sound,
     }
 }
 
@@ -104,7 +92,7 @@ fn place_in(count: usize, size: usize) -> usize
 }
 
 // Draws the record of each change instant that has a permanent state, one behind the other. All that come
-// behind the first 256 are drawn over each other, so that they are checked too.
+// behind the first 256 are drawn over each other: they are counted, and no table holds them.
 fn walk(
     permanent: &[u8],
     begins: &[u32],
@@ -123,7 +111,6 @@ fn walk(
     let mut past = past_of(0, 0);
     let mut begin = change_since(permanent, begins, ends, gones, front.end, Instant(0));
     let mut count = 0;
-    let mut sound = true;
     while !begin.is_none() {
         let next = Instant(begin.0 + 1);
         let end = change_since(permanent, begins, ends, gones, front.end, next);
@@ -138,10 +125,9 @@ fn walk(
         }
         past = past_of(step.records, held.count);
         count += step.records;
-        sound = sound & step.sound;
         begin = end;
     }
-    Drawn::Records(count, sound)
+    Drawn::Records(count)
 }
 
 // Draws the records of the derived baselines: notes the times of the table's records, and walks from one

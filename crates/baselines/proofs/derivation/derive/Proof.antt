@@ -4,7 +4,6 @@ use mathlib.Core.Path.{_≡_, refl, sym, subst, _∙_}
 use mathlib.Core.Bool.{false}
 use mathlib.Core.List.{List}
 use native.Mathlib.Omega.{arith}
-use borrow.Author.Tests.{not-true, not-false}
 use Rattle.slice.specs.declared.check.Checked.the-variants.{Sound}
 use Rattle.slice.specs.Record.{permanent}
 use Rattle.laws.specs.Lists.{any}
@@ -15,7 +14,8 @@ use Rattle.table.proofs.Sound.{sound-table}
 use Rattle.baselines.specs.Deriving.{derivedRecords}
 use Rattle.baselines.specs.Steps.{drawnOf, Drew}
 use Rattle.baselines.specs.declared.drawing.Drawn.{Drawn}
-use Rattle.baselines.proofs.Decided.{told-two, told-records, table-refused, two-refused, unsound-refused, many-refused, few-left}
+use Rattle.baselines.proofs.Decided.{told-two, told-records, table-refused, two-refused, many-refused, few-left}
+use Rattle.baselines.proofs.Passes.{derived-pass}
 use borrow.Author.Needs.{needs}
 use Rattle.baselines.proofs.derivation.derive.Statement.{statement}
 use Rattle.baselines.proofs.derivation.derive.Tie as tie
@@ -33,45 +33,42 @@ sound c = sym (c .before .before .check-table .ensures) ∙ c .enum-told .given 
 abbrev checked : tie.After-draw-all → tie.After-enum-told
 checked c = c .before .before
 
-told : (c : tie.After-count) → let p = table (checked (c .before .before .before)) in drawnOf p ≡ Drawn.Records (c .count .given .0 .0) (c .count .given .0 .1 .0)
+told : (c : tie.After-count) → let p = table (checked (c .before .before .before)) in drawnOf p ≡ Drawn.Records (c .count .given .0 .0)
 told c = sym (c .before .before .before .draw-all .ensures .0) ∙ c .count .given .1
 
-all-sound : (c : tie.Else1) → let p = table (checked (c .before .before .before .before .before)) in any (fails (strideOf p) permanent) (derivedRecords p) ≡ false
-all-sound c = let t = told-records _ _ _ (told (c .before .before)) in not-true _ (sym (t .2) ∙ not-false _ (c .if1 .left))
+-- no derived record fails the slice check
+pass : (c : tie.After-enum-told) → any (fails (strideOf (table c)) permanent) (derivedRecords (table c)) ≡ false
+pass c = derived-pass (table c) (λ i. c .before .before .before .before .shared-slice-known .given i .fits) (sound c)
 
 returns-2 : tie.Need-returns-2
 returns-2 c =
     let k = c .before .before in
-    let t = told-records _ _ _ (told k) in
-    (unsound-refused _ _ (sound (checked (k .before .before .before))) (t .0) (not-false _ (sym (t .2) ∙ not-true _ (c .if1 .taken))), refl)
-
-returns-3 : tie.Need-returns-3
-returns-3 c =
-    let k = c .before .before .before in
-    let t = told-records _ _ _ (told k) in
-    (many-refused _ _ (sound (checked (k .before .before .before))) (t .0) (all-sound (c .before)) (omega (arith, t .1, c .if2 .taken)), refl)
+    let d = checked (k .before .before .before) in
+    let t = told-records _ _ (told k) in
+    (many-refused _ _ (sound d) (t .0) (pass d) (omega (arith, t .1, c .if1 .taken)), refl)
 
 hand-over-requires : tie.Need-hand-over-requires
 hand-over-requires c κs =
     let e = c .before .before in
-    let k = e .before .before .before in
+    let k = e .before .before in
     let d = k .before .before .before in
-    let t = told-records _ _ _ (told k) in
+    let t = told-records _ _ (told k) in
     let drew = subst (λ (r : Drawn). Drew r (table (checked d)) (d .draw-all .last .1 .0)) (k .count .given .1) (d .draw-all .ensures .1) in
-    (sound-table sides.Permanent _ (sound (checked d)) .headed, (e .if2 .left, (t .1, (search needs, drew (e .if2 .left)))))
+    (sound-table sides.Permanent _ (sound (checked d)) .headed, (e .if1 .left, (t .1, (search needs, drew (e .if1 .left)))))
 
-returns-4 : tie.Need-returns-4
-returns-4 c =
+returns-3 : tie.Need-returns-3
+returns-3 c =
     let d = c .before .before .before in
     (two-refused _ _ (sound (checked d)) (told-two _ (sym (d .draw-all .ensures .0) ∙ c .enum-told2 .given .1)), refl)
 
-returns-5 : tie.Need-returns-5
-returns-5 c =
+returns-4 : tie.Need-returns-4
+returns-4 c =
     let h = c .before .before in
     let e = h .before .before .before in
-    let k = e .before .before .before in
-    let t = told-records _ _ _ (told k) in
-    (h .hand-over .ensures .0 ∙ few-left _ _ (sound (checked (k .before .before .before))) (t .0) (all-sound (e .before)) (omega (arith, t .1, e .if2 .left)), h .hand-over .ensures .1)
+    let k = e .before .before in
+    let d = checked (k .before .before .before) in
+    let t = told-records _ _ (told k) in
+    (h .hand-over .ensures .0 ∙ few-left _ _ (sound d) (t .0) (pass d) (omega (arith, t .1, e .if1 .left)), h .hand-over .ensures .1)
 
 pub derive-spec : {M : Type 1} → statement M
 derive-spec =
@@ -86,9 +83,8 @@ derive-spec =
     (λ c. search needs)
     (λ c. search needs)
     returns-2
-    returns-3
     (λ c. search needs)
     hand-over-requires
-    returns-4
+    returns-3
     (λ c. search needs)
-    returns-5)
+    returns-4)

@@ -3,8 +3,6 @@ use Prim.Native.Nat.{ℕ}
 use mathlib.Core.Path.{_≡_, sym, ap, _∙_}
 use mathlib.Core.List.{List, _∷_, _++_}
 use Rattle.octets.specs.Writing.{bytesOf, pasted}
-use Rattle.slice.specs.Record.{permanent}
-use Rattle.slice.specs.Check.{checkRecord}
 use Rattle.history.specs.Permanent.{Standing, known}
 use Rattle.history.specs.State.{State}
 use Rattle.state.specs.Asking.{outcomeOf}
@@ -12,7 +10,7 @@ use Rattle.state.proofs.Pasting.{pasted-all}
 use Rattle.baselines.specs.Carried.{Shows}
 use Rattle.baselines.specs.Steps.{drawnRecord, stepOf, afterStep}
 use Rattle.baselines.proofs.Carried.{carried-drawn}
-use Rattle.baselines.proofs.Standings.{told-refused, told-written, step-sound, step-unsound}
+use Rattle.baselines.proofs.Standings.{told-refused, told-written}
 use borrow.Author.Needs.{needs}
 use Rattle.baselines.proofs.drawing.draw.Statement.{statement}
 use Rattle.baselines.proofs.drawing.draw.Tie as tie
@@ -53,21 +51,9 @@ module _ (k : tie.After-put-front) where
 
 returns-2 : tie.Need-returns-2
 returns-2 c =
-    let r = c .before .before in
-    let k = r .before .before .before .before in
+    let k = c .before .before in
     let a = start k .args in (
-      λ v e shows. let (s, t) = state k v e shows in
-          step-sound (a .stride) (a .sequence .0) (a .begin) (a .end) s v t (sym (r .check-record .ensures ∙ ap (checkRecord (a .stride) permanent) (record-is k v e shows)) ∙ c .enum-told2 .given .1),
-      after-is k,
-    )
-
-returns-3 : tie.Need-returns-3
-returns-3 c =
-    let r = c .before .before in
-    let k = r .before .before .before .before in
-    let a = start k .args in (
-      λ v e shows. let (s, t) = state k v e shows in
-          step-unsound (a .stride) (a .sequence .0) (a .begin) (a .end) s v t _ (sym (r .check-record .ensures ∙ ap (checkRecord (a .stride) permanent) (record-is k v e shows)) ∙ c .enum-told3 .given .1),
+      λ v e shows. sym (ap (stepOf (a .stride) (a .sequence .0) (a .begin) (a .end)) (state k v e shows .1)),
       after-is k,
     )
 
@@ -80,10 +66,5 @@ draw-spec =
     (λ c. search needs)
     (λ c κs. search needs)
     (λ c κs. search needs)
-    (λ c κs. search needs)
     (λ c. search needs)
-    (λ c. search needs)
-    (λ c. search needs)
-    returns-2
-    (λ c. search needs)
-    returns-3)
+    returns-2)

@@ -32,11 +32,11 @@ use Rattle.baselines.proofs.drawing.walk.Statement.{statement}
 use Rattle.baselines.proofs.drawing.walk.Tie as tie
 
 abbrev Inv-loop : tie.InvT-loop
-Inv-loop permanent begins ends gones front drawn₀ stride size current₀ past₀ begin₀ count₀ sound₀ drawn current past begin count sound =
-    Walked permanent drawn begin count sound × ((length current ≡ 224) × Before permanent begin (past .had) (past .free) current)
+Inv-loop permanent begins ends gones front drawn₀ stride size current₀ past₀ begin₀ count₀ drawn current past begin count =
+    Walked permanent drawn begin count × ((length current ≡ 224) × Before permanent begin (past .had) (past .free) current)
 
 abbrev μ-loop : tie.MeasureT-loop
-μ-loop permanent begins ends gones front drawn₀ stride size current₀ past₀ begin₀ count₀ sound₀ drawn current past begin count sound = noInstant - begin .0
+μ-loop permanent begins ends gones front drawn₀ stride size current₀ past₀ begin₀ count₀ drawn current past begin count = noInstant - begin .0
 
 abbrev start : tie.After-stride-of Inv-loop μ-loop → tie.Start Inv-loop μ-loop
 start c = c .before .before .before .before .before .before
@@ -71,7 +71,7 @@ loop-holds c =
     )
 
 -- a turn
-abbrev walked : (c : tie.After-struct-known Inv-loop μ-loop) → let l = c .before .before .before .loop in let s = c .before .before .before .before .before .before in Walked (table s) (l .drawn) (l .begin) (l .count) (l .sound)
+abbrev walked : (c : tie.After-struct-known Inv-loop μ-loop) → let l = c .before .before .before .loop in let s = c .before .before .before .before .before .before in Walked (table s) (l .drawn) (l .begin) (l .count)
 walked c = c .before .before .before .loop .inv .0
 
 going : (c : tie.After-struct-known Inv-loop μ-loop) → isNone (c .before .before .before .loop .begin) ≡ false
@@ -82,7 +82,7 @@ first c = c .before .before .before .before .before .before
 
 next : (c : tie.After-struct-known Inv-loop μ-loop) → c .before .before .before .loop .begin .0 + 1 ≤ 4294967295
 unfolding noInstant
-next c = next-most (table (first c)) (low (first c)) _ _ _ _ (walked c) (going c)
+next c = next-most (table (first c)) (low (first c)) _ _ _ (walked c) (going c)
 
 -- the sizes of a turn, as numbers
 sized : (c : tie.After-stride-of Inv-loop μ-loop) → 32 + 8 * c .stride-of .result ≡ 224
@@ -197,7 +197,7 @@ returns c =
     let t = here b in
     let s = first t in
     let two = step-two _ _ _ _ (standing b) (step-is b) (c .if2 .taken) in
-    (sym (rw (two-here (table s) (low s) _ _ _ _ (walked t) (going t) two)), tt)
+    (sym (rw (two-here (table s) (low s) _ _ _ (walked t) (going t) two)), tt)
 
 add-count : tie.Need-add-count Inv-loop μ-loop
 add-count c =
@@ -206,14 +206,14 @@ add-count c =
 
 loop-less : tie.Need-loop-less Inv-loop μ-loop
 loop-less c =
-    let b = c .before .before .before .before in
+    let b = c .before .before .before in
     let t = here b in
     let e = turn b .before .before .before .before .before .change-since2 .ensures in
-    omega (arith, falls (table (first t)) (low (first t)) _ _ _ _ (walked t) (going t) _ e, next-most (table (first t)) (low (first t)) _ _ _ _ (walked t) (going t))
+    omega (arith, falls (table (first t)) (low (first t)) _ _ _ (walked t) (going t) _ e, next-most (table (first t)) (low (first t)) _ _ _ (walked t) (going t))
 
 loop-again : tie.Need-loop-again Inv-loop μ-loop
 loop-again c =
-    let o = c .before .before in
+    let o = c .before in
     let n = o .before in
     let b = n .before in
     let k = turn b in
@@ -222,10 +222,10 @@ loop-again c =
     let m : width k ≡ 224 = omega (arith, sized s) in
     let e = k .before .before .before .before .before .change-since2 .ensures in
     let d = drew b .draw in (
-      turned (table s) (low s) _ _ _ _ (walked t) (going t) _ e _ _ (d .last .0) (d .result) (place k) m (b .before .drawn .given .0) (standing b) refl (step-is b) (last-is b) (n .if2 .left),
+      turned (table s) (low s) _ _ _ (walked t) (going t) _ e _ _ (d .last .0) (d .result) (place k) m (b .before .drawn .given .0) (standing b) refl (step-is b) (last-is b) (n .if2 .left),
       (
         kept-long k,
-        before-next (table s) (begin b) (end b) _ _ (current b) e (falls (table s) (low s) _ _ _ _ (walked t) (going t) _ e)
+        before-next (table s) (begin b) (end b) _ _ (current b) e (falls (table s) (low s) _ _ _ (walked t) (going t) _ e)
             (subst (λ (x : Bool). Left x (strideOf (table s)) (standing b) (current b)) (sym (o .past-of2 .ensures .0)) (step-left _ _ _ _ (standing b) (current b) (step-is b) (n .if2 .left) (shows b)))
             (λ f. holding (k .before .before .before .before) .none (eqb-true _ _ (sym (o .past-of2 .ensures .1) ∙ f))),
       ),
@@ -234,7 +234,7 @@ loop-again c =
 returns-2 : tie.Need-returns-2 Inv-loop μ-loop
 returns-2 c =
     let l = c .before .before in
-    walked-all (table (l .before .before .before)) _ _ _ _ (l .loop .inv .0) (sym (c .before .is-none .ensures) ∙ not-false _ (c .if1 .left))
+    walked-all (table (l .before .before .before)) _ _ _ (l .loop .inv .0) (sym (c .before .is-none .ensures) ∙ not-false _ (c .if1 .left))
 
 pub walk-spec : {M : Type 1} → statement M
 walk-spec =
