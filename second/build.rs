@@ -1,16 +1,39 @@
 //! Tells where the library is, where this program is built to link it.
 
+use std::path::{Path, PathBuf};
+
+/// The variable that names the folder of the archive, where it is another than that of `make lib`.
+const FOLDER: &str = "TIMESLICES_LIB_DIR";
+
 /// Writes the link lines under the feature `linked`, and nothing otherwise.
 fn main() {
-    println!("cargo:rerun-if-changed=build.rs");
+    println!("cargo::rerun-if-changed=build.rs");
+    println!("cargo::rerun-if-env-changed={FOLDER}");
     if std::env::var_os("CARGO_FEATURE_LINKED").is_none() {
         return;
     }
-    if std::env::var("CARGO_CFG_TARGET_ARCH").as_deref() != Ok("x86_64") {
-        println!("cargo:warning=the archive that rt writes is for x86-64 and links into no other program");
+    let folder = folder();
+    let archive = folder.join("libtimeslices.a");
+    println!("cargo::rerun-if-changed={}", archive.display());
+    if !archive.is_file() {
+        let named = archive.display();
+        println!("cargo::error=there is no archive {named}: run `make lib` first, or set {FOLDER} to the folder of one");
+        return;
     }
-    let here = std::env::var("CARGO_MANIFEST_DIR").expect("cargo names the folder of the manifest");
-    println!("cargo:rustc-link-search=native={here}/../target/staticlib");
-    println!("cargo:rustc-link-lib=static=timeslices");
-    println!("cargo:rerun-if-changed={here}/../target/staticlib/libtimeslices.a");
+    println!("cargo::rustc-link-search=native={}", folder.display());
+    println!("cargo::rustc-link-lib=static=timeslices");
+}
+
+/// Answers the folder of the archive: the one that is named, or that of `make lib` for the processor.
+fn folder() -> PathBuf {
+    let variable = |name| std::env::var_os(name).filter(|value| !value.is_empty());
+    if let Some(folder) = variable(FOLDER) {
+        return folder.into();
+    }
+    let here = variable("CARGO_MANIFEST_DIR").expect("cargo names the folder of the manifest");
+    let target = Path::new(&here).join("../target");
+    match std::env::var("CARGO_CFG_TARGET_ARCH").as_deref() {
+        Ok("x86_64") => target.join("staticlib"),
+        _ => target.join("native"),
+    }
 }
