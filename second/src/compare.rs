@@ -5,12 +5,13 @@ use crate::arrival;
 use crate::derived;
 use crate::library::{Library, Reply};
 use crate::listing;
+use crate::play::further::{further, Judge};
 use crate::play::{round, Call, Player};
 use crate::question;
-use crate::table::{self, MOST_RECORDS};
+use crate::table::{self, Sides, MOST_RECORDS};
 use crate::tables::{Product, Question, Tables};
+use crate::tally::{Answer, Tally};
 use crate::vectors::format::{fill_lines, instant_line, line, output_line, record_line, EXCHANGE};
-use std::collections::BTreeMap;
 use std::fmt;
 use std::time::{Duration, Instant};
 
@@ -24,9 +25,6 @@ pub enum Limit {
     Rounds(u64),
     Seconds(u64),
 }
-
-/// How often each answer was given to each letter that asks.
-pub type Tally = BTreeMap<(char, Reply), u64>;
 
 /// A part that is lent, with guard bytes on both sides.
 struct Lent {
@@ -46,7 +44,7 @@ pub struct Difference {
 }
 
 /// A library, and how its calls were answered so far.
-struct Comparison<'a> {
+pub struct Comparison<'a> {
     library: &'a Library,
     tally: &'a mut Tally,
     calls: usize,
@@ -74,7 +72,7 @@ impl Limit {
 pub fn run(library: &Library, limit: Limit, seed: u64) -> bool {
     println!("seed {seed}");
     let (start, mut told) = (Instant::now(), 0);
-    let (mut tally, mut round) = (Tally::new(), 0);
+    let (mut tally, mut round) = (Tally::default(), 0);
     while !limit.is_reached(round, start.elapsed()) {
         let seed = seed.wrapping_add(round);
         if let Err(difference) = play(library, seed, &mut tally) {
@@ -84,46 +82,31 @@ pub fn run(library: &Library, limit: Limit, seed: u64) -> bool {
         round += 1;
         if start.elapsed().as_secs() >= told + 10 {
             told = start.elapsed().as_secs();
-            println!("{round} rounds, {} calls", tally.values().sum::<u64>());
+            println!("{told} s: {round} rounds, {} calls so far", tally.calls());
         }
     }
-    print!("{}", summary(&tally));
-    println!("{round} rounds, no difference");
+    print!("{tally}");
+    let calls = tally.calls();
+    println!("{round} rounds, {calls} calls, no difference");
     true
-}
-
-/// Answers the number of calls by answer, a line each.
-fn summary(tally: &Tally) -> String {
-    tally
-        .iter()
-        .map(|(&(letter, reply), count)| format!("{count:>12} {}\n", word(letter, reply)))
-        .collect()
-}
-
-/// Answers what a reply to a letter says.
-fn word(letter: char, reply: Reply) -> String {
-    let accepted: &[&str] = match letter {
-        'm' => &["made"],
-        'a' => &["added", "replaced", "superseded", "repeat"],
-        'v' => &["permanent", "temporary", "unmentioned"],
-        'e' => &["derived"],
-        'y' => &["text", "needs"],
-        _ => &["written"],
-    };
-    match (reply.kind as usize).checked_sub(1) {
-        None => format!("{letter} {}", reply.number),
-        Some(index) => format!("{letter} {}", accepted.get(index).unwrap_or(&"?")),
-    }
 }
 
 /// Plays one round to a library and to this program; answers the first difference.
 fn play(library: &Library, seed: u64, tally: &mut Tally) -> Result<(), Box<Difference>> {
-    let mut comparison = Comparison {
-        library,
-        tally,
-        calls: 0,
-    };
-    round(&mut comparison, seed, MOST_RECORDS)
+    let mut comparison = Comparison::new(library, tally);
+    round(&mut comparison, seed, MOST_RECORDS)?;
+    further(&mut comparison, seed, MOST_RECORDS)
+}
+
+impl<'a> Comparison<'a> {
+    /// Answers the comparison of a library, whose answers are counted.
+    pub fn new(library: &'a Library, tally: &'a mut Tally) -> Comparison<'a> {
+        Comparison {
+            library,
+            tally,
+            calls: 0,
+        }
+    }
 }
 
 impl Player for Comparison<'_> {
@@ -143,8 +126,7 @@ impl Player for Comparison<'_> {
             .map(|(bytes, shift)| Lent::new(bytes, GUARD + shift))
             .collect();
         let reply = call.put(self.library, lent.part_mut(), &handed);
-        let counted = Reply::new(right.kind, if right.kind == 0 { right.number } else { 0 });
-        *self.tally.entry((call.letter(), counted)).or_insert(0) += 1;
+        self.tally.count(call.counted(right, place));
         let handed = handed.iter().zip(call.handed());
         let difference = Difference {
             lines: vec![],
@@ -166,7 +148,51 @@ impl Player for Comparison<'_> {
     }
 }
 
+impl Judge for Comparison<'_> {
+    /// Holds a table that came out, of the library and of this program alike, against the right one.
+    fn hold(&mut self, table: &[u8], right: &[u8]) -> Result<(), Box<Difference>> {
+        let place = Lent::new(table, GUARD).first_other(right);
+        if place.is_none() {
+            return Ok(());
+        }
+        let (came, should) = ("came out:".to_string(), "should be:".to_string());
+        Err(Box::new(Difference {
+            lines: [
+                vec![came],
+                fill_lines(table, 0),
+                vec![should],
+                fill_lines(right, 0),
+            ]
+            .concat(),
+            right: Reply::new(1, 0),
+            reply: Reply::new(1, 0),
+            place,
+            handed: vec![],
+        }))
+    }
+}
+
 impl Call<'_> {
+    /// Answers what a reply is counted as, that left the place so.
+    fn counted(&self, reply: Reply, place: &[u8]) -> Answer {
+        let is_sound = |tables: &Tables| table::check(&tables.permanent, Sides::Permanent).is_ok();
+        let is_temporary = match self {
+            Call::Ask { tables, .. } => matches!(reply.number, 1..=7) && is_sound(tables),
+            _ => false,
+        };
+        let reply = match place.strip_prefix(b"refused ") {
+            Some(rest) if self.letter() == 'y' && reply.kind == 1 => {
+                let digits = &rest[..reply.number as usize - "refused \n".len()];
+                let number = digits
+                    .iter()
+                    .fold(0, |number, digit| 10 * number + u32::from(digit - b'0'));
+                Reply::new(0, number)
+            }
+            _ => reply,
+        };
+        Answer::of(self.letter(), reply, is_temporary)
+    }
+
     /// Answers the letter that asks this in the vectors.
     fn letter(&self) -> char {
         match self {
@@ -381,14 +407,14 @@ mod tests {
 
     /// Answers whether some rounds with a library go without a difference.
     fn is_same(library: &Library) -> bool {
-        let mut tally = Tally::new();
+        let mut tally = Tally::default();
         (0..6).all(|seed| play(library, seed, &mut tally).is_ok())
     }
 
     /// Plays some rounds to a library, which make no difference; answers how they were answered.
     fn same(library: &Library) -> Tally {
-        let mut tally = Tally::new();
-        for seed in 100..116 {
+        let mut tally = Tally::default();
+        for seed in 100..110 {
             if let Err(difference) = play(library, seed, &mut tally) {
                 panic!("{difference}");
             }
@@ -404,21 +430,17 @@ mod tests {
         assert_eq!(same(&BY_WALK), tally);
         assert_eq!(same(&BY_SWEEPS), tally);
         assert_eq!(same(&ON_HEAP), tally);
-        let words: Vec<String> = tally
-            .keys()
-            .map(|&(letter, reply)| word(letter, reply))
-            .collect();
-        assert_eq!(
-            words.join(", "),
-            "a 1, a 2, a 3, a 4, a 5, a 6, a 7, a 9, a 10, a 11, a 12, a 13, a 14, a 15, a 16, a 17, a 18, \
-             a added, a replaced, a superseded, a repeat, \
-             e 1, e 2, e 3, e 4, e 5, e 6, e 7, e 21, e 23, e derived, \
-             g 1, g 2, g 3, g 4, g 5, g 6, g 7, g 19, g 20, g 21, g 22, g 23, g written, \
-             m 1, m 2, m made, \
-             n 1, n 2, n 3, n 4, n 5, n 6, n 7, n 8, n 19, n 20, n 21, n 22, n 23, n written, \
-             v 1, v 2, v 3, v 4, v 5, v 6, v 7, v 8, v 19, v 20, v 21, v 22, \
-             v permanent, v temporary, v unmentioned, y text, y needs"
-        );
+        assert_eq!(tally.unseen(), []);
+    }
+
+    /// A table that is not the right one is told, by the first byte that is another.
+    #[test]
+    fn other_tables_are_found() {
+        let mut tally = Tally::default();
+        let mut comparison = Comparison::new(&PLAIN, &mut tally);
+        assert!(comparison.hold(&[1, 2, 3], &[1, 2, 3]).is_ok());
+        let difference = comparison.hold(&[1, 2, 3], &[1, 2, 4]).unwrap_err();
+        assert_eq!(difference.place, Some(2));
     }
 
     /// A change not made, a wrong number and a byte too many are each found.

@@ -221,11 +221,7 @@ impl History {
             let records: Vec<Vec<u8>> = self.of(side).map(Case::record).collect();
             let length = HEADER_BYTES + records.len() * RECORD_BYTES;
             let written = sample::table(side, &records, length, 0);
-            let table = match side {
-                Side::Permanent => &mut self.tables.permanent,
-                Side::Temporary => &mut self.tables.temporary,
-            };
-            table[..length].copy_from_slice(&written);
+            self.tables.of_side(side)[..length].copy_from_slice(&written);
         }
     }
 }

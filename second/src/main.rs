@@ -32,6 +32,8 @@ mod state;
 mod supply;
 mod table;
 mod tables;
+#[cfg(any(test, feature = "linked"))]
+mod tally;
 mod vectors;
 
 use std::io::Write;

@@ -1,5 +1,8 @@
 //! Rounds of random, edge and damaged calls, put to whoever plays them.
 
+#[cfg(any(test, feature = "linked"))]
+pub mod further;
+
 use crate::histories::History;
 use crate::random::Random;
 use crate::record::{Side, NONE, RECORD_BYTES};
@@ -59,13 +62,7 @@ const DERIVED: usize = 40;
 
 /// Plays one round of every sort of call, at tables of at most so many records, 40 or more.
 pub fn round<P: Player>(player: &mut P, seed: u64, most: usize) -> Result<(), P::Fault> {
-    let mut round = Round {
-        player,
-        random: Random::new(seed),
-        most,
-        record: vec![],
-        output: vec![],
-    };
+    let mut round = Round::new(player, seed, most);
     round.creations()?;
     round.lone_arrivals()?;
     round.damaged_bytes()?;
@@ -76,7 +73,18 @@ pub fn round<P: Player>(player: &mut P, seed: u64, most: usize) -> Result<(), P:
     round.many_derived()
 }
 
-impl<P: Player> Round<'_, P> {
+impl<'a, P: Player> Round<'a, P> {
+    /// Answers a round that begins.
+    fn new(player: &'a mut P, seed: u64, most: usize) -> Round<'a, P> {
+        Round {
+            player,
+            random: Random::new(seed),
+            most,
+            record: vec![],
+            output: vec![],
+        }
+    }
+
     /// Plays the arrival of a slice.
     fn arrive(&mut self, table: &mut Vec<u8>, slice: &[u8]) -> Result<(), P::Fault> {
         self.player.call(table, &Call::Arrive { slice })

@@ -106,8 +106,8 @@ pub fn table(random: &mut Random, side: Side, count: usize, rest: usize) -> Vec<
     sample::table(side, &records, length, random.byte())
 }
 
-/// Makes a delivery of so many keys: up to three corrections each, repeats and damage among them.
-pub fn delivery(random: &mut Random, side: Side, count: usize) -> Vec<Vec<u8>> {
+/// Makes the slices of so many keys, up to three corrections each.
+pub fn corrections(random: &mut Random, side: Side, count: usize) -> Vec<Vec<u8>> {
     let mut slices = vec![];
     for key in keys(random, side, count) {
         let first = random.pick(&[0, 0, 1, 255, 65_533]);
@@ -115,6 +115,11 @@ pub fn delivery(random: &mut Random, side: Side, count: usize) -> Vec<Vec<u8>> {
             slices.push(slice(random, key, first + correction));
         }
     }
+    slices
+}
+
+/// Puts repeats and damaged slices among some slices, and all of them into another order.
+pub fn mingled(random: &mut Random, mut slices: Vec<Vec<u8>>) -> Vec<Vec<u8>> {
     for _ in 0..slices.len() / 3 {
         let mut again = slices[random.below(slices.len())].clone();
         if random.below(2) == 0 {
@@ -124,6 +129,12 @@ pub fn delivery(random: &mut Random, side: Side, count: usize) -> Vec<Vec<u8>> {
     }
     shuffle(random, &mut slices);
     slices
+}
+
+/// Makes a delivery of so many keys: up to three corrections each, repeats and damage among them.
+pub fn delivery(random: &mut Random, side: Side, count: usize) -> Vec<Vec<u8>> {
+    let slices = corrections(random, side, count);
+    mingled(random, slices)
 }
 
 /// How long each BASELINE of a crowd holds; the next one begins where it ends.

@@ -46,6 +46,14 @@ impl Tables {
         }
     }
 
+    /// Answers the table of a side, to be changed.
+    pub fn of_side(&mut self, side: Side) -> &mut Vec<u8> {
+        match side {
+            Side::Permanent => &mut self.permanent,
+            Side::Temporary => &mut self.temporary,
+        }
+    }
+
     /// Answers every time that a record of a sound table gives, and the instants beside it, rising.
     pub fn instants(&self) -> Vec<u32> {
         let tables = [&self.permanent, &self.temporary];

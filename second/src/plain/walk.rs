@@ -61,7 +61,7 @@ pub fn walk(
 
 /// Answers the last instant at which a PERMDELTA opens the life, or 0.
 fn last_opening(changes: &[Record]) -> u32 {
-    let opens = |change: &&Record| number(*change, LIFE_BEGIN) != NONE;
+    let opens = |change: &&Record| number(change, LIFE_BEGIN) != NONE;
     let begins = changes.iter().filter(opens).map(|one| number(one, BEGIN));
     begins.max().unwrap_or(0)
 }
