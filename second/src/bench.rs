@@ -1,14 +1,15 @@
-//! Measures a library against the plain program of this one, on the same bytes in one run.
+//! Measures a library against the plain programs of this one, on the same bytes in one run, and prints one
+//! table.
 
 mod derived;
 mod questions;
+mod scenes;
 
-use crate::library::{Library, Reply, PLAIN};
-use crate::random::Random;
-use crate::record::{Kind, Side, RECORD_BYTES};
-use crate::supply;
-use crate::table::{Feature, HEADER_BYTES};
-use crate::vectors::sample::{cases, table_of, FEATURE, RECORD};
+use crate::library::{Library, Reply, BY_STEPS, BY_SWEEPS, ON_HEAP, PLAIN};
+use crate::listing::MOST_BYTES;
+use crate::record::RECORD_BYTES;
+use crate::vectors::sample::FEATURE;
+use std::fmt;
 use std::hint::black_box;
 use std::time::{Duration, Instant};
 
@@ -20,55 +21,62 @@ const COUNTS: [usize; 3] = [16, 64, 256];
 const RECORDS: usize = 2048;
 const TIME: Duration = Duration::from_micros(1500);
 
-/// The head of what is printed.
+/// The bytes that hold every listing.
+const TEXT: usize = 10_771;
+
+/// The plain programs: the one that the library is held against, and those that derive in other ways.
+const PLAINS: [(&str, &Library); 4] = [
+    ("", &PLAIN),
+    ("; plain in steps", &BY_STEPS),
+    ("; plain in sweeps", &BY_SWEEPS),
+    ("; plain on the heap", &ON_HEAP),
+];
+
+/// The head of the table.
 const HEAD: &str = "\
-Tables of 2,048 records together are called in turn; they are copied anew outside the timed part.
-count: the records of each table. A record is counted once for each call that looks at it.
-pass: one sum over all bytes of the tables, for each call.
-
-records  call             count    ours ns   plain ns  ours/plain  ours ns/record  plain ns/record  ours/pass";
-
-/// What the records of a table are like.
-#[derive(Clone, Copy, Debug)]
-enum Make {
-    /// TEMPDELTAs of one form each.
-    Alike,
-    /// BASELINEs and PERMDELTAs, some cancelled, of forms at random.
-    Mixed,
-}
+| call                                          | records |   ours ns |  plain ns | ours/plain | ours ns a record | ours/pass |
+|-----------------------------------------------|--------:|----------:|----------:|-----------:|-----------------:|----------:|";
 
 /// What is called.
 #[derive(Clone)]
 enum Call {
-    NewTable(Feature),
+    NewTable,
     Arrive(Vec<u8>),
     /// The permanent state at an instant.
     State(u32),
     /// The snapshot with a temporary table at an instant.
     Snapshot(Vec<u8>, u32),
+    /// One property, with a temporary table at an instant.
+    Property(Vec<u8>, u32, u8),
     /// All eight properties, one after the other, with a temporary table at an instant.
     Properties(Vec<u8>, u32),
+    Derive,
+    Listing,
 }
 
-/// A table, and the call that is made on it.
+/// A table, the call that is made on it, and what it answers.
 #[derive(Clone)]
 struct Use {
     table: Vec<u8>,
     call: Call,
+    right: Reply,
 }
 
-/// One thing to be measured: what the calls answer, and how often they can be made before the
-/// tables have to be as they were.
+/// One thing to be measured, and how often the calls can be made before the tables have to be as they
+/// were.
 struct Scene {
-    name: &'static str,
-    right: Reply,
-    repeats: usize,
+    name: String,
     records: usize,
+    repeats: usize,
     uses: Vec<Use>,
 }
 
-/// Nanoseconds a call, of the library and of the plain program, and of one pass over the table.
-struct Times {
+/// A line of the table: nanoseconds a call, of the library, of a plain program and of one pass over the
+/// tables that the call reads, and how many tables these are, one after the other.
+struct Row {
+    call: String,
+    records: usize,
+    tables: usize,
     ours: f64,
     plain: f64,
     pass: f64,
@@ -77,185 +85,92 @@ struct Times {
 /// Measures everything so many times and prints the medians; answers whether every call answered
 /// as it should.
 pub fn run(library: &Library, rounds: usize) -> bool {
-    println!("Medians of {rounds} rounds, library and plain program by turns.\n{HEAD}");
-    for make in [Make::Alike, Make::Mixed] {
-        let sets = COUNTS.map(|count| scenes(make, count));
-        for index in 0..sets[0].len() {
-            for scene in sets.iter().map(|set| &set[index]) {
-                if !scene.is_right(library) || !scene.is_right(&PLAIN) {
-                    println!("{}: another answer than expected", scene.name);
-                    return false;
-                }
-                println!("{}", scene.row(make, &scene.measure(library, rounds)));
-            }
+    println!("Medians of {rounds} rounds, the library and the plain programs by turns.\n\n{HEAD}");
+    let sets = COUNTS.map(scenes::all);
+    for index in 0..sets[0].len() {
+        let scenes = sets.each_ref().map(|set| &set[index]);
+        if let Some(scene) = scenes.iter().find(|scene| !scene.is_right_for_all(library)) {
+            println!("{}: another answer than expected", scene.name);
+            return false;
+        }
+        let rows = scenes.map(|scene| scene.measure(library, rounds));
+        for plain in 0..rows[0].len() {
+            rows.iter().for_each(|rows| println!("{}", rows[plain]));
         }
     }
-    derived::run(library, rounds)
-}
-
-/// Makes a table that counts so many records and has no room for more.
-fn full_table(make: Make, count: usize, seed: u64) -> Vec<u8> {
-    match make {
-        Make::Mixed => supply::table(&mut Random::new(seed), Side::Permanent, count, 0),
-        Make::Alike => {
-            let keys: Vec<_> = (1..=count as u32)
-                .map(|index| (Kind::TempDelta, 3 * index))
-                .collect();
-            table_of(&cases(&keys), 0, 0)
-        }
-    }
-}
-
-/// Answers the slice of a table's record, under the correction 1.
-fn slice(table: &[u8], index: usize) -> Vec<u8> {
-    let start = HEADER_BYTES + index * RECORD_BYTES;
-    let mut slice = [&FEATURE, &table[start..start + RECORD_BYTES]].concat();
-    slice[RECORD + 2..RECORD + 4].copy_from_slice(&[0, 1]);
-    slice
-}
-
-/// Answers a table with another correction number in one of its records.
-fn corrected(mut table: Vec<u8>, index: usize, correction: u16) -> Vec<u8> {
-    let place = HEADER_BYTES + index * RECORD_BYTES + 2;
-    table[place..place + 2].copy_from_slice(&correction.to_be_bytes());
-    table
-}
-
-/// Answers a table without its first record, which leaves room for one.
-fn without_first(mut table: Vec<u8>) -> Vec<u8> {
-    let count = u16::from_be_bytes([table[6], table[7]]) - 1;
-    table[6..8].copy_from_slice(&count.to_be_bytes());
-    table.copy_within(HEADER_BYTES + RECORD_BYTES.., HEADER_BYTES);
-    table
-}
-
-/// Makes a table and a call for each scene, in their order.
-fn uses(make: Make, count: usize, seed: u64) -> [Use; 6] {
-    let table = full_table(make, count, seed);
-    let middle = count / 2;
-    let (first, again) = (slice(&table, 0), slice(&table, middle));
-    let with = |correction| corrected(table.clone(), middle, correction);
-    let arrival = |table, slice: &[u8]| Use {
-        table,
-        call: Call::Arrive(slice.to_vec()),
-    };
-    [
-        arrival(table.clone(), &[]),
-        arrival(without_first(table.clone()), &first),
-        arrival(with(0), &again),
-        arrival(with(2), &again),
-        arrival(with(1), &again),
-        Use {
-            table,
-            call: Call::NewTable(FEATURE),
-        },
-    ]
-}
-
-/// Makes a table and a question for each scene, in their order.
-fn asks(make: Make, count: usize, seed: u64) -> [Use; 3] {
-    let (tables, instant) = questions::asked(make, count, seed);
-    let temporary = tables.temporary;
-    [
-        Call::State(instant),
-        Call::Snapshot(temporary.clone(), instant),
-        Call::Properties(temporary, instant),
-    ]
-    .map(|call| Use {
-        table: tables.permanent.clone(),
-        call,
-    })
-}
-
-/// Makes the scenes on tables of so many records.
-fn scenes(make: Make, count: usize) -> Vec<Scene> {
-    let sets: Vec<Vec<Use>> = (0..(RECORDS / count) as u64)
-        .map(|seed| {
-            let (uses, asks) = (uses(make, count, seed), asks(make, count, seed));
-            uses.into_iter().chain(asks).collect()
-        })
-        .collect();
-    let scene = |index: usize, name, kind, number, repeats| Scene {
-        name,
-        right: Reply::new(kind, number),
-        repeats,
-        records: count,
-        uses: sets.iter().map(|set| set[index].clone()).collect(),
-    };
-    vec![
-        scene(0, "table check", 0, 9, 16),
-        scene(1, "Added in front", 1, 0, 1),
-        scene(2, "Replaced", 2, 0, 1),
-        scene(3, "Superseded", 3, 0, 16),
-        scene(4, "Repeat", 4, 0, 16),
-        scene(5, "new table", 1, 0, 256),
-        scene(6, "permanent state", 1, 0, 16),
-        scene(7, "snapshot", 1, 0, 16),
-        scene(8, "eight properties", 1, 0, 4),
-    ]
+    true
 }
 
 impl Use {
-    /// Makes the call once.
-    fn call(&self, library: &Library, table: &mut [u8]) -> Reply {
+    /// Makes the call once, with an output for what it writes beside the table.
+    fn call(&self, library: &Library, table: &mut [u8], output: &mut [u8]) -> Reply {
+        let record = &mut output[..RECORD_BYTES];
         match &self.call {
-            Call::NewTable(feature) => (library.new_table)(table, 0, black_box(feature)),
+            Call::NewTable => (library.new_table)(table, 0, black_box(&FEATURE)),
             Call::Arrive(slice) => (library.arrive)(table, black_box(slice)),
-            Call::State(instant) => {
-                let mut record = [0; RECORD_BYTES];
-                let reply = (library.permanent_state)(table, *instant, &mut record);
-                black_box(record);
-                reply
-            }
+            Call::State(instant) => (library.permanent_state)(table, *instant, record),
             Call::Snapshot(temporary, instant) => {
-                let mut record = [0; RECORD_BYTES];
-                let temporary = black_box(temporary);
-                let reply = (library.snapshot)(table, temporary, *instant, &mut record);
-                black_box(record);
-                reply
+                (library.snapshot)(table, black_box(temporary), *instant, record)
+            }
+            Call::Property(temporary, instant, property) => {
+                (library.property)(table, black_box(temporary), *instant, *property)
             }
             Call::Properties(temporary, instant) => {
-                let mut is_refused = false;
-                for property in 0..8 {
-                    let temporary = black_box(temporary);
-                    let reply = (library.property)(table, temporary, *instant, property);
-                    is_refused |= black_box(reply).kind == 0;
-                }
-                Reply::new(u32::from(!is_refused), 0)
+                let ask = |property| {
+                    (library.property)(black_box(table), black_box(temporary), *instant, property)
+                };
+                let refused = (0..8).filter(|&property| black_box(ask(property)).kind == 0);
+                Reply::new(u32::from(refused.count() == 0), 0)
             }
+            Call::Derive => (library.derive)(table, &mut output[..table.len()]),
+            Call::Listing => (library.listing)(table, &mut output[..TEXT]),
         }
     }
 
-    /// Answers the sum of all bytes that the call looks at.
+    /// Answers the sum of all bytes of the tables that the call reads, each time that it does.
     fn pass(&self, table: &[u8]) -> u64 {
         match &self.call {
-            Call::NewTable(_) | Call::Arrive(_) | Call::State(_) => sum(table),
-            Call::Snapshot(temporary, _) => sum(table) + sum(black_box(temporary)),
+            Call::Snapshot(temporary, _) | Call::Property(temporary, ..) => {
+                sum(table) + sum(black_box(temporary))
+            }
             Call::Properties(temporary, _) => (0..8)
                 .map(|_| sum(black_box(table)) + sum(black_box(temporary)))
                 .sum(),
+            _ => sum(table),
         }
     }
 
-    /// Answers how many tables the call looks at, one after the other.
+    /// Answers how many tables the call reads, one after the other.
     fn tables(&self) -> usize {
         match &self.call {
-            Call::NewTable(_) => 0,
-            Call::Arrive(_) | Call::State(_) => 1,
-            Call::Snapshot(..) => 2,
+            Call::NewTable => 0,
+            Call::Arrive(_) | Call::State(_) | Call::Derive | Call::Listing => 1,
+            Call::Snapshot(..) | Call::Property(..) => 2,
             Call::Properties(..) => 16,
         }
     }
 }
 
 impl Scene {
-    /// Answers whether the library answers what is expected.
+    /// Answers the plain programs, each with what the line says of it: those that do not do the same.
+    fn plains(&self) -> &'static [(&'static str, &'static Library)] {
+        match self.uses[0].call {
+            Call::Derive | Call::Listing => &PLAINS,
+            _ => &PLAINS[..1],
+        }
+    }
+
+    /// Answers whether a library and the plain programs answer what is expected.
+    fn is_right_for_all(&self, library: &Library) -> bool {
+        let mut plains = self.plains().iter();
+        self.is_right(library) && plains.all(|(_, plain)| self.is_right(plain))
+    }
+
+    /// Answers whether a library answers what is expected.
     fn is_right(&self, library: &Library) -> bool {
-        let mut replies = self
-            .uses
-            .iter()
-            .map(|one| one.call(library, &mut one.table.clone()));
-        replies.all(|reply| reply == self.right)
+        let mut output = vec![0; MOST_BYTES];
+        let mut reply = |one: &Use| one.call(library, &mut one.table.clone(), &mut output);
+        self.uses.iter().all(|one| reply(one) == one.right)
     }
 
     /// Answers the nanoseconds that one use of a table takes, the copying of tables left out.
@@ -277,39 +192,60 @@ impl Scene {
         spent.as_nanos() as f64 / calls as f64
     }
 
-    /// Measures library, plain program and pass by turns; answers the medians.
-    fn measure(&self, library: &Library, rounds: usize) -> Times {
+    /// Measures the library, the plain programs and the pass by turns; answers a line with the medians for
+    /// each plain program.
+    fn measure(&self, library: &Library, rounds: usize) -> Vec<Row> {
         let mut tables: Vec<Vec<u8>> = self.uses.iter().map(|one| one.table.clone()).collect();
-        let [mut ours, mut plain, mut pass] = [const { vec![] }; 3];
+        let (mut output, plains) = (vec![0; MOST_BYTES], self.plains());
+        let libraries: Vec<_> = [library]
+            .into_iter()
+            .chain(plains.iter().map(|(_, plain)| *plain))
+            .collect();
+        let (mut times, mut passes) = (vec![vec![]; libraries.len()], vec![]);
         for _ in 0..rounds {
-            for (times, library) in [(&mut ours, library), (&mut plain, &PLAIN)] {
+            for (times, library) in times.iter_mut().zip(&libraries) {
                 times.push(self.time(&mut tables, |one, table| {
-                    black_box(one.call(library, table));
+                    black_box(one.call(library, table, black_box(&mut output)));
                 }));
             }
-            pass.push(self.time(&mut tables, |one, table| {
+            passes.push(self.time(&mut tables, |one, table| {
                 black_box(one.pass(table));
             }));
         }
-        Times {
-            ours: median(ours),
-            plain: median(plain),
-            pass: median(pass),
-        }
+        let (times, pass) = (times.into_iter().map(median), median(passes));
+        self.rows(&times.collect::<Vec<_>>(), pass)
     }
 
-    /// Answers the line of the scene.
-    fn row(&self, make: Make, times: &Times) -> String {
-        let Times { ours, plain, pass } = times;
-        let (tables, ratio) = (self.uses[0].tables(), ours / plain);
-        let start = format!("{make:?}    {:16} {:5}", self.name, self.records);
-        let count = (tables * self.records) as f64;
-        let (one, other) = (ours / count, plain / count);
-        let each = match tables {
-            0 => format!("{:>14}  {:>15}  {:>9}", "-", "-", "-"),
-            _ => format!("{one:14.1}  {other:15.1}  {:9.2}", ours / pass),
+    /// Answers the lines of the times of the library and the plain programs, and of a pass.
+    fn rows(&self, times: &[f64], pass: f64) -> Vec<Row> {
+        let row = |(&(other, _), &plain): (&(&str, _), &f64)| Row {
+            call: format!("{}{other}", self.name),
+            records: self.records,
+            tables: self.uses[0].tables(),
+            ours: times[0],
+            plain,
+            pass,
         };
-        format!("{start}  {ours:9.1}  {plain:9.1}  {ratio:10.2}  {each}")
+        self.plains().iter().zip(&times[1..]).map(row).collect()
+    }
+}
+
+impl fmt::Display for Row {
+    /// Writes the line.
+    fn fmt(&self, out: &mut fmt::Formatter) -> fmt::Result {
+        let (ours, plain) = (self.ours, self.plain);
+        let (call, records, ratio) = (&self.call, self.records, ours / plain);
+        write!(
+            out,
+            "| {call:45} | {records:7} | {ours:9.1} | {plain:9.1} | {ratio:10.2} | "
+        )?;
+        match self.tables * records {
+            0 => write!(out, "{:>16} | {:>9} |", "-", "-"),
+            count => {
+                let (each, passes) = (ours / count as f64, ours / self.pass);
+                write!(out, "{each:16.1} | {passes:9.2} |")
+            }
+        }
     }
 }
 
@@ -328,21 +264,6 @@ fn median(mut times: Vec<f64>) -> f64 {
 mod tests {
     use super::*;
 
-    /// Each call answers what its scene says, and a repeated one does so again.
-    #[test]
-    fn scenes_are_what_they_are_called() {
-        for make in [Make::Alike, Make::Mixed] {
-            for scene in COUNTS.into_iter().flat_map(|count| scenes(make, count)) {
-                for one in scene.uses {
-                    let mut table = one.table.clone();
-                    for _ in 0..scene.repeats {
-                        assert_eq!(one.call(&PLAIN, &mut table), scene.right);
-                    }
-                }
-            }
-        }
-    }
-
     /// The plain program measured against itself, once; a wrong answer is told.
     #[test]
     fn everything_is_measured() {
@@ -353,10 +274,10 @@ mod tests {
         };
         assert!(!run(&wrong, 1));
         let wrong = Library {
-            derive: |_, _| Reply::new(1, 1),
+            listing: |_, _| Reply::new(1, 1),
             ..PLAIN
         };
-        assert!(!derived::run(&wrong, 1));
+        assert!(!run(&wrong, 1));
     }
 
     /// The middle one.
@@ -365,13 +286,24 @@ mod tests {
         assert_eq!(median(vec![9.0, 1.0, 2.0]), 2.0);
     }
 
-    /// After "Added in front" the table is full.
+    /// A line for each plain program, as wide as the head; nothing a record where no table is read.
     #[test]
-    fn an_added_record_is_the_last_that_fits() {
-        let [check, added, ..] = uses(Make::Mixed, 16, 3);
-        let mut table = added.table.clone();
-        assert_eq!(added.call(&PLAIN, &mut table).kind, 1);
-        assert_eq!(table[..HEADER_BYTES], check.table[..HEADER_BYTES]);
-        assert_eq!(table[HEADER_BYTES + 4..], check.table[HEADER_BYTES + 4..]);
+    fn lines_are_those_of_one_table() {
+        let scenes = scenes::all(16);
+        let rows = scenes[0].rows(&[8.0, 4.0], 2.0);
+        assert_eq!(rows.len(), 1);
+        assert!(rows[0]
+            .to_string()
+            .ends_with("|       8.0 |       4.0 |       2.00 |                - |         - |"));
+        let rows = scenes
+            .last()
+            .unwrap()
+            .rows(&[64.0, 1.0, 2.0, 4.0, 8.0], 2.0);
+        assert_eq!(rows.len(), 4);
+        assert!(rows[3]
+            .to_string()
+            .ends_with("|      64.0 |       8.0 |       8.00 |              4.0 |     32.00 |"));
+        let width = HEAD.lines().next().unwrap().len();
+        assert!(rows.iter().all(|row| row.to_string().len() == width));
     }
 }

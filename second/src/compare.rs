@@ -403,7 +403,7 @@ impl fmt::Display for Difference {
 #[cfg(test)]
 mod tests {
     use super::*;
-    use crate::library::{BY_SWEEPS, BY_WALK, ON_HEAP, PLAIN};
+    use crate::library::{BY_STEPS, BY_SWEEPS, ON_HEAP, PLAIN};
 
     /// Answers whether some rounds with a library go without a difference.
     fn is_same(library: &Library) -> bool {
@@ -427,7 +427,7 @@ mod tests {
     #[test]
     fn the_plain_program_is_the_same() {
         let tally = same(&PLAIN);
-        assert_eq!(same(&BY_WALK), tally);
+        assert_eq!(same(&BY_STEPS), tally);
         assert_eq!(same(&BY_SWEEPS), tally);
         assert_eq!(same(&ON_HEAP), tally);
         assert_eq!(tally.unseen(), []);

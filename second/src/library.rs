@@ -29,7 +29,7 @@ pub struct Library {
     pub listing: fn(&[u8], &mut [u8]) -> Reply,
 }
 
-/// The plain program of this one, which derives in steps.
+/// The plain program of this one, which derives in a walk, as the library does.
 pub const PLAIN: Library = Library {
     new_table: |table, side, feature| Reply::of_writing(plain::new_table(table, side, feature)),
     arrive: |table, slice| Reply::of_arrival(plain::arrive(table, slice)),
@@ -42,25 +42,36 @@ pub const PLAIN: Library = Library {
     property: |permanent, temporary, instant, property| {
         Reply::of_part(plain::property([permanent, temporary], instant, property))
     },
-    derive: |permanent, output| Reply::of_derived(plain::derive_by_steps(permanent, output)),
-    listing: |permanent, text| Reply::of_listing(plain::list(permanent, text)),
+    derive: |permanent, output| Reply::of_derived(plain::derive_by_walk(permanent, output)),
+    listing: |permanent, text| {
+        Reply::of_listing(plain::list(permanent, text, plain::derive_by_walk))
+    },
 };
 
-/// The plain program that derives in a walk, as the library does.
-pub const BY_WALK: Library = Library {
-    derive: |permanent, output| Reply::of_derived(plain::derive_by_walk(permanent, output)),
+/// The plain program that derives in steps.
+pub const BY_STEPS: Library = Library {
+    derive: |permanent, output| Reply::of_derived(plain::derive_by_steps(permanent, output)),
+    listing: |permanent, text| {
+        Reply::of_listing(plain::list(permanent, text, plain::derive_by_steps))
+    },
     ..PLAIN
 };
 
 /// The plain program that derives in sweeps without a heap.
 pub const BY_SWEEPS: Library = Library {
     derive: |permanent, output| Reply::of_derived(plain::derive_by_sweeps(permanent, output)),
+    listing: |permanent, text| {
+        Reply::of_listing(plain::list(permanent, text, plain::derive_by_sweeps))
+    },
     ..PLAIN
 };
 
 /// The plain program that derives in a sweep with a heap.
 pub const ON_HEAP: Library = Library {
     derive: |permanent, output| Reply::of_derived(plain::derive_on_heap(permanent, output)),
+    listing: |permanent, text| {
+        Reply::of_listing(plain::list(permanent, text, plain::derive_on_heap))
+    },
     ..PLAIN
 };
 

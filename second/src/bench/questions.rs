@@ -1,6 +1,6 @@
 //! Tables of which states, snapshots and properties are asked, each with an instant that has a state.
 
-use super::Make;
+use super::scenes::Make;
 use crate::random::Random;
 use crate::record::{Kind, NONE};
 use crate::supply;

@@ -1,8 +1,8 @@
 //! The listing of a permanent table, without a heap.
 
-use super::derive::derive_by_sweeps;
 use super::state::{parts_of, BEGIN, END};
 use super::{number, Record, HEADER, MOST, NONE};
+use crate::refusal::Refusal;
 use std::io::{self, Write};
 
 /// The bytes that baselines are derived into.
@@ -11,12 +11,15 @@ const DERIVED: usize = HEADER + MOST * 224;
 /// The most bytes of a line: three numbers, eight digits, three spaces and a line feed.
 const LINE: usize = 3 + 10 + 10 + 8 + 4;
 
-/// Writes the listing into the first bytes of a place, if it fits; answers its length, as an error
-/// where it does not.
-pub fn list(permanent: &[u8], text: &mut [u8]) -> Result<usize, usize> {
+/// A program that derives baselines into an output.
+type Derive = fn(&[u8], &mut [u8]) -> Result<usize, Refusal>;
+
+/// Writes the listing of baselines that are derived so into the first bytes of a place, if it fits;
+/// answers its length, as an error where it does not.
+pub fn list(permanent: &[u8], text: &mut [u8], derive: Derive) -> Result<usize, usize> {
     let mut listing = [0; (MOST + 1) * LINE];
     let mut rest = &mut listing[..];
-    write(permanent, &mut rest).expect("there is room for every line");
+    write(permanent, &mut rest, derive).expect("there is room for every line");
     let left = rest.len();
     let length = listing.len() - left;
     let place = text.get_mut(..length).ok_or(length)?;
@@ -25,9 +28,9 @@ pub fn list(permanent: &[u8], text: &mut [u8]) -> Result<usize, usize> {
 }
 
 /// Writes the listing.
-fn write(permanent: &[u8], text: &mut &mut [u8]) -> io::Result<()> {
+fn write(permanent: &[u8], text: &mut &mut [u8], derive: Derive) -> io::Result<()> {
     let mut derived = [0; DERIVED];
-    match derive_by_sweeps(permanent, &mut derived) {
+    match derive(permanent, &mut derived) {
         Err(refusal) => writeln!(text, "refused {}", refusal.number()),
         Ok(count) => {
             writeln!(text, "derived {count}")?;

@@ -1,0 +1,206 @@
+//! What is measured: each call on tables of so many records, with what it answers.
+
+use super::derived::{self, Shape};
+use super::questions::asked;
+use super::{Call, Scene, Use, RECORDS, TEXT};
+use crate::library::Reply;
+use crate::listing::list;
+use crate::question::property;
+use crate::random::Random;
+use crate::record::{Kind, Side, RECORD_BYTES};
+use crate::supply;
+use crate::table::HEADER_BYTES;
+use crate::vectors::sample::{cases, table_of, FEATURE, RECORD};
+
+/// What the records of a table are like.
+#[derive(Clone, Copy, Debug)]
+pub enum Make {
+    /// TEMPDELTAs of one form each.
+    Alike,
+    /// BASELINEs and PERMDELTAs, some cancelled, of forms at random.
+    Mixed,
+}
+
+/// Makes every scene on tables of so many records, in the order of the table that is printed.
+pub fn all(count: usize) -> Vec<Scene> {
+    let created = |seed| {
+        [made(
+            full_table(Make::Alike, count, seed),
+            Call::NewTable,
+            1,
+        )]
+    };
+    let mut all = scenes(count, [("tsl_new_table".to_string(), 256)], created);
+    for make in [Make::Alike, Make::Mixed] {
+        let names = [
+            ("refused with 9", 16),
+            ("Added in front", 1),
+            ("Replaced", 1),
+            ("Superseded", 16),
+            ("Repeat", 16),
+        ];
+        let names = names.map(|(name, repeats)| (format!("tsl_arrive, {make:?}: {name}"), repeats));
+        all.extend(scenes(count, names, |seed| arrivals(make, count, seed)));
+    }
+    for make in [Make::Alike, Make::Mixed] {
+        let names = [
+            (format!("tsl_permanent_state, {make:?}"), 16),
+            (format!("tsl_snapshot, {make:?}"), 16),
+            (format!("tsl_property, {make:?}: one"), 16),
+            (format!("tsl_property, {make:?}: all eight"), 4),
+        ];
+        all.extend(scenes(count, names, |seed| questions(make, count, seed)));
+    }
+    for shape in [Shape::Row, Shape::Line, Shape::Open] {
+        let names = ["derive", "listing"].map(|name| (format!("tsl_{name}, {shape:?}"), 1));
+        all.extend(scenes(count, names, |seed| products(shape, count, seed)));
+    }
+    all
+}
+
+/// Makes scenes of these names and repeats, with the uses that each seed gives in the same order.
+fn scenes<const N: usize>(
+    count: usize,
+    names: [(String, usize); N],
+    uses: impl Fn(u64) -> [Use; N],
+) -> Vec<Scene> {
+    let sets: Vec<[Use; N]> = (0..(RECORDS / count) as u64).map(uses).collect();
+    let scene = |(index, (name, repeats)): (usize, _)| Scene {
+        name,
+        records: count,
+        repeats,
+        uses: sets.iter().map(|set| set[index].clone()).collect(),
+    };
+    names.into_iter().enumerate().map(scene).collect()
+}
+
+/// Makes a use of a table that is accepted with a kind and no number.
+fn made(table: Vec<u8>, call: Call, kind: u32) -> Use {
+    Use {
+        table,
+        call,
+        right: Reply::new(kind, 0),
+    }
+}
+
+/// Makes a table that counts so many records and has no room for more.
+fn full_table(make: Make, count: usize, seed: u64) -> Vec<u8> {
+    match make {
+        Make::Mixed => supply::table(&mut Random::new(seed), Side::Permanent, count, 0),
+        Make::Alike => {
+            let keys: Vec<_> = (1..=count as u32)
+                .map(|index| (Kind::TempDelta, 3 * index))
+                .collect();
+            table_of(&cases(&keys), 0, 0)
+        }
+    }
+}
+
+/// Answers the slice of a table's record, under the correction 1.
+fn slice(table: &[u8], index: usize) -> Vec<u8> {
+    let start = HEADER_BYTES + index * RECORD_BYTES;
+    let mut slice = [&FEATURE, &table[start..start + RECORD_BYTES]].concat();
+    slice[RECORD + 2..RECORD + 4].copy_from_slice(&[0, 1]);
+    slice
+}
+
+/// Answers a table with another correction number in one of its records.
+fn corrected(mut table: Vec<u8>, index: usize, correction: u16) -> Vec<u8> {
+    let place = HEADER_BYTES + index * RECORD_BYTES + 2;
+    table[place..place + 2].copy_from_slice(&correction.to_be_bytes());
+    table
+}
+
+/// Answers a table without its first record, which leaves room for one.
+fn without_first(mut table: Vec<u8>) -> Vec<u8> {
+    let count = u16::from_be_bytes([table[6], table[7]]) - 1;
+    table[6..8].copy_from_slice(&count.to_be_bytes());
+    table.copy_within(HEADER_BYTES + RECORD_BYTES.., HEADER_BYTES);
+    table
+}
+
+/// Makes the arrivals: a slice of no bytes, and one that is Added, Replaced, Superseded and a Repeat.
+fn arrivals(make: Make, count: usize, seed: u64) -> [Use; 5] {
+    let table = full_table(make, count, seed);
+    let middle = count / 2;
+    let (first, again) = (slice(&table, 0), slice(&table, middle));
+    let again = |correction, kind| {
+        let table = corrected(table.clone(), middle, correction);
+        made(table, Call::Arrive(again.clone()), kind)
+    };
+    let nothing = Use {
+        table: table.clone(),
+        call: Call::Arrive(vec![]),
+        right: Reply::new(0, 9),
+    };
+    let added = made(without_first(table.clone()), Call::Arrive(first), 1);
+    [nothing, added, again(0, 2), again(2, 3), again(1, 4)]
+}
+
+/// Makes the questions: the permanent state, the snapshot, one property and all eight.
+fn questions(make: Make, count: usize, seed: u64) -> [Use; 4] {
+    let (tables, instant) = asked(make, count, seed);
+    let (permanent, temporary) = (tables.permanent, tables.temporary);
+    let number = (seed % 8) as u8;
+    let part = property(&permanent, &temporary, instant, number);
+    let part = part.map(|part| part.map(|part| (part.side, part.place)));
+    let made = |call| made(permanent.clone(), call, 1);
+    [
+        made(Call::State(instant)),
+        made(Call::Snapshot(temporary.clone(), instant)),
+        Use {
+            right: Reply::of_part(part),
+            ..made(Call::Property(temporary.clone(), instant, number))
+        },
+        made(Call::Properties(temporary, instant)),
+    ]
+}
+
+/// Makes the derived baselines and the listing of a table.
+fn products(shape: Shape, count: usize, seed: u64) -> [Use; 2] {
+    let table = derived::table(shape, count, seed);
+    let listed = Reply::of_listing(list(&table, &mut [0; TEXT]));
+    let made = |call, right| Use {
+        table: table.clone(),
+        call,
+        right,
+    };
+    [
+        made(Call::Derive, Reply::new(1, count as u32)),
+        made(Call::Listing, listed),
+    ]
+}
+
+#[cfg(test)]
+mod tests {
+    use super::super::COUNTS;
+    use super::*;
+    use crate::library::PLAIN;
+    use crate::listing::MOST_BYTES;
+
+    /// Each call answers what its scene says, and a repeated one does so again.
+    #[test]
+    fn scenes_are_what_they_are_called() {
+        let mut output = vec![0; MOST_BYTES];
+        for scene in COUNTS.into_iter().flat_map(all) {
+            for one in scene.uses {
+                let mut table = one.table.clone();
+                for _ in 0..scene.repeats {
+                    let reply = one.call(&PLAIN, &mut table, &mut output);
+                    assert_eq!(reply, one.right, "{}", scene.name);
+                }
+            }
+        }
+    }
+
+    /// After "Added in front" the table is full.
+    #[test]
+    fn an_added_record_is_the_last_that_fits() {
+        let [check, added, ..] = arrivals(Make::Mixed, 16, 3);
+        let mut table = added.table.clone();
+        let reply = added.call(&PLAIN, &mut table, &mut [0; RECORD_BYTES]);
+        assert_eq!(reply.kind, 1);
+        assert_eq!(table[..HEADER_BYTES], check.table[..HEADER_BYTES]);
+        assert_eq!(table[HEADER_BYTES + 4..], check.table[HEADER_BYTES + 4..]);
+    }
+}
