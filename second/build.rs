@@ -22,6 +22,11 @@ fn main() {
     }
     println!("cargo::rustc-link-search=native={}", folder.display());
     println!("cargo::rustc-link-lib=static=timeslices");
+    if std::env::var_os("CARGO_FEATURE_FUZZ").is_some() {
+        // The fuzzer is written in C++; ../tools/fuzz puts its archive beside the library's.
+        println!("cargo::rustc-link-lib=static=fuzzer");
+        println!("cargo::rustc-link-lib=stdc++");
+    }
 }
 
 /// Answers the folder of the archive: the one that is named, or that of `make lib` for the processor.

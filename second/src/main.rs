@@ -11,6 +11,8 @@ mod derived;
 #[cfg(test)]
 mod examples;
 mod files;
+#[cfg(any(test, feature = "fuzz"))]
+mod fuzz;
 mod histories;
 #[cfg(any(test, feature = "linked"))]
 mod library;
@@ -74,6 +76,8 @@ fn files(words: &[&str]) -> Option<bool> {
 fn with_library(words: &[&str]) -> Option<bool> {
     use compare::Limit;
     let (limit, seed) = match words {
+        #[cfg(feature = "fuzz")]
+        ["fuzz", words @ ..] => return Some(fuzz::driver::run(words)),
         ["bench"] => return Some(bench::run(&linked::LINKED, 21)),
         ["bench", rounds] => return Some(bench::run(&linked::LINKED, rounds.parse().ok()?)),
         ["compare"] => (Limit::Rounds(200), 1),

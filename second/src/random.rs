@@ -1,32 +1,68 @@
 //! A small generator of numbers that are the same in each run (splitmix64).
 
-/// The generator and where it stands.
+/// The generator and where it stands; bytes that it was given come before its own numbers.
 pub struct Random {
     state: u64,
+    given: Vec<u8>,
 }
 
 impl Random {
     /// Starts a generator; equal seeds give equal numbers.
     pub fn new(seed: u64) -> Random {
-        Random { state: seed }
+        Random {
+            state: seed,
+            given: vec![],
+        }
     }
 
-    /// Answers the next 64 bits.
-    pub fn bits(&mut self) -> u64 {
+    /// Starts a generator whose first numbers are these bytes, a small number one of them.
+    #[cfg(any(test, feature = "fuzz"))]
+    pub fn given(bytes: &[u8]) -> Random {
+        Random {
+            state: 0,
+            given: bytes.iter().rev().copied().collect(),
+        }
+    }
+
+    /// Answers whether any of the bytes are left that it was given.
+    #[cfg(any(test, feature = "fuzz"))]
+    pub fn is_given(&self) -> bool {
+        !self.given.is_empty()
+    }
+
+    /// Answers a number of so many of the bytes it was given, or else the next 64 bits.
+    fn next(&mut self, bytes: usize) -> u64 {
+        let Some(rest) = self.given.len().checked_sub(bytes) else {
+            self.given.clear();
+            return self.mixed();
+        };
+        let taken = self.given.split_off(rest);
+        let number = |bits, byte: &u8| bits << 8 | u64::from(*byte);
+        taken.iter().rev().fold(0, number)
+    }
+
+    /// Answers the next 64 bits of the generator.
+    fn mixed(&mut self) -> u64 {
         self.state = self.state.wrapping_add(0x9e37_79b9_7f4a_7c15);
         let mixed = (self.state ^ (self.state >> 30)).wrapping_mul(0xbf58_476d_1ce4_e5b9);
         let mixed = (mixed ^ (mixed >> 27)).wrapping_mul(0x94d0_49bb_1331_11eb);
         mixed ^ (mixed >> 31)
     }
 
+    /// Answers the next 64 bits.
+    pub fn bits(&mut self) -> u64 {
+        self.next(8)
+    }
+
     /// Answers a number below the limit, which is not zero.
     pub fn below(&mut self, limit: usize) -> usize {
-        (self.bits() % limit as u64) as usize
+        let bytes = if limit <= 256 { 1 } else { 4 };
+        (self.next(bytes) % limit as u64) as usize
     }
 
     /// Answers a byte.
     pub fn byte(&mut self) -> u8 {
-        self.bits() as u8
+        self.next(1) as u8
     }
 
     /// Fills a place with bytes.
@@ -58,6 +94,16 @@ mod tests {
         let mut random = Random::new(1_234_567);
         assert_eq!(random.bits(), 6_457_827_717_110_365_317);
         assert_eq!(random.bits(), 3_203_168_211_198_807_973);
+    }
+
+    /// Bytes that are given come first, one or more for a number, and then the generator's own.
+    #[test]
+    fn given_bytes_come_first() {
+        let mut random = Random::given(&[7, 9, 0, 0, 1, 44, 5]);
+        assert_eq!((random.byte(), random.below(6)), (7, 3));
+        assert_eq!((random.below(1000), random.is_given()), (300, true));
+        let own = Random::new(0).bits();
+        assert_eq!((random.bits(), random.is_given()), (own, false));
     }
 
     /// One flip, one bit.

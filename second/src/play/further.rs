@@ -1,5 +1,6 @@
 //! Further calls of a round, for a library that is linked: feeds held against the table of their set,
-//! tables with each of their bytes damaged put to every call, and tables that came out put in again.
+//! tables with each of their bytes damaged and records with fields changed put to every call, and tables
+//! that came out put in again.
 
 use super::{Asked, Player, Round};
 use crate::histories::History;
@@ -8,7 +9,9 @@ use crate::record::{Side, NONE, RECORD_BYTES};
 use crate::slice;
 use crate::supply;
 use crate::tables::{Product, Question, Tables};
+use crate::vectors::chance::drift;
 use crate::vectors::deriving::bytes_of;
+use crate::vectors::parts::edge_part;
 use crate::vectors::sample::{self, FEATURE, KIND, RECORD, TIMES};
 use std::collections::BTreeMap;
 
@@ -18,7 +21,8 @@ pub trait Judge: Player {
     fn hold(&mut self, table: &[u8], right: &[u8]) -> Result<(), Self::Fault>;
 }
 
-/// The small histories of a round whose baselines are put in again.
+/// The records of a round that drift, and the small histories whose baselines are put in again.
+const DRIFTING: usize = 300;
 const FED_BACK: usize = 20;
 
 /// Plays the further calls of a round, at tables of at most so many records.
@@ -26,6 +30,7 @@ pub fn further<P: Judge>(player: &mut P, seed: u64, most: usize) -> Result<(), P
     let mut round = Round::new(player, !seed, most);
     round.feed()?;
     round.damaged_tables()?;
+    round.drifting_records()?;
     round.fed_back_histories()
 }
 
@@ -106,6 +111,32 @@ impl<P: Judge> Round<'_, P> {
                 let slice = supply::slice_for(&mut self.random, counted(&table));
                 self.arrive(&mut damaged, &slice)?;
             }
+        }
+        Ok(())
+    }
+
+    /// Plays records that are mostly sound, with a field or two changed and with doubles at their ends: as
+    /// slices that arrive, and as tables of one record that are used.
+    fn drifting_records(&mut self) -> Result<(), P::Fault> {
+        let starts = [sample::sound_cases(), sample::cancelled_cases()].concat();
+        for _ in 0..DRIFTING {
+            let mut case = starts[self.random.below(starts.len())].clone();
+            let side = Side::of(case.side).expect("a sound case is of a side");
+            for _ in 0..=self.random.below(2) {
+                case = match self.random.below(3) {
+                    0 => {
+                        let part = edge_part(&mut self.random);
+                        case.with_part(self.random.below(8), &part)
+                    }
+                    _ => drift(case, &mut self.random),
+                };
+            }
+            let mut tables = Tables::of(&[]);
+            tables.of_side(side).resize(bytes_of(2), 0);
+            self.arrive(tables.of_side(side), &case.slice)?;
+            *tables.of_side(side) = sample::table(side, &[case.record()], bytes_of(1), 0);
+            let instant = self.random.pick(&[100, 120, 150, 200]);
+            self.some_uses(&tables, instant)?;
         }
         Ok(())
     }

@@ -71,7 +71,7 @@ fn drifting_slices(script: &mut Script) {
 }
 
 /// Answers the case with one field changed at random, mostly to something that could be right.
-fn drift(case: Case, random: &mut Random) -> Case {
+pub fn drift(case: Case, random: &mut Random) -> Case {
     let index = random.below(PROPERTIES);
     match random.below(24) {
         0 => case.with_byte(KIND, random.pick(&[1, 1, 2, 2, 3, 4])),

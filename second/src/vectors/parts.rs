@@ -171,6 +171,17 @@ fn edge_coordinates() -> Vec<u64> {
         .collect()
 }
 
+/// Makes a part with a double at a border or at the end of a range, sound or not.
+#[cfg(any(test, feature = "linked"))]
+pub fn edge_part(random: &mut Random) -> Part {
+    let (borders, edges) = (border_doubles(), edge_coordinates());
+    match random.below(3) {
+        0 => length(random.pick(&borders), 1 + random.below(4) as u8),
+        1 => point(random.pick(&borders), random.pick(&edges)),
+        _ => point(random.pick(&edges), random.pick(&edges)),
+    }
+}
+
 /// Adds every pair of edge coordinates.
 fn coordinates(script: &mut Script) {
     script.title("property: coordinates at the ends of their ranges");
