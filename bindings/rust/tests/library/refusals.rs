@@ -1,0 +1,321 @@
+//! Every refusal that can come up, through each call that gives it; none changes a byte.
+
+use crate::slices::*;
+use timeslices::{
+    arrive, derive, listing_string, new_table, permanent_state, property, snapshot, Refusal, Side,
+    LARGEST_TABLE, NONE, RECORD_BYTES,
+};
+
+/// Answers the number of a refusal, 0 where nothing is refused.
+fn number<T>(answer: Result<T, Refusal>) -> u32 {
+    answer.err().map_or(0, Refusal::number)
+}
+
+/// Makes a call that is lent bytes, which it must leave as they are where it refuses, and answers the
+/// number.
+fn lent<T>(bytes: &[u8], call: impl FnOnce(&mut [u8]) -> Result<T, Refusal>) -> u32 {
+    let mut after = bytes.to_vec();
+    let number = number(call(&mut after));
+    assert!(number == 0 || after == bytes, "{number} changed a byte");
+    number
+}
+
+/// Answers the number of an arrival.
+fn arrival(table: &[u8], slice: &[u8]) -> u32 {
+    lent(table, |table| arrive(table, slice))
+}
+
+/// Answers the numbers of the permanent state, the snapshot and a property at an instant, with a record of
+/// a length.
+fn asked(tables: &Tables, instant: u32, length: usize, asked: u8) -> [u32; 3] {
+    let (permanent, temporary, instant) = (&tables.permanent, &tables.temporary, at(instant));
+    let record = vec![FILL; length];
+    [
+        lent(&record, |record| {
+            permanent_state(permanent, instant, record)
+        }),
+        lent(&record, |record| {
+            snapshot(permanent, temporary, instant, record)
+        }),
+        number(property(permanent, temporary, instant, asked)),
+    ]
+}
+
+/// Answers the number of derived baselines, into an output of a length.
+fn derived(permanent: &[u8], length: usize) -> u32 {
+    lent(&vec![FILL; length], |output| derive(permanent, output))
+}
+
+/// Makes tables that hold some records of each side.
+fn filled() -> Tables {
+    Tables::of(&[base(), p(1, 150, 2), t(1, 120, 140, 5), t(2, 130, 160, 6)])
+}
+
+/// Makes wrong tables of a sound one, each with the number that it is refused with.
+fn faults(sound: &[u8]) -> Vec<(u32, Vec<u8>)> {
+    let set = |place: usize, bytes: &[u8]| {
+        let mut table = sound.to_vec();
+        table[place..place + bytes.len()].copy_from_slice(bytes);
+        table
+    };
+    let (first, second) = (&sound[32..256], &sound[256..480]);
+    let mut faults = vec![(1, vec![]), (1, sound[..31].to_vec())];
+    faults.extend([0, 1, 2].map(|place| (2, set(place, b"x"))));
+    faults.extend([2, 255].map(|side| (2, set(3, &[side]))));
+    faults.extend([[0, 0], [0, 2], [1, 1]].map(|version| (3, set(4, &version))));
+    faults.extend((24..32).map(|place| (4, set(place, &[1]))));
+    faults.extend([[0, 5], [1, 0], [255, 255]].map(|count| (5, set(6, &count))));
+    faults.extend([(5, sound[..479].to_vec()), (5, sound[..32].to_vec())]);
+    faults.extend([32, 33, 63, 64, 256, 257, 287, 288].map(|place| (6, set(place, &[9]))));
+    faults.extend([[second, first], [first, first]].map(|two| (7, set(32, &two.concat()))));
+    faults
+}
+
+/// 1 to 7 of the permanent table, by each call that reads one, whatever else is wrong.
+#[test]
+fn a_wrong_permanent_table() {
+    let Tables {
+        permanent,
+        temporary,
+    } = filled();
+    for (number, permanent) in faults(&permanent) {
+        assert_eq!(arrival(&permanent, &[]), number);
+        assert_eq!(derived(&permanent, 0), number);
+        assert_eq!(listing_string(&permanent), format!("refused {number}\n"));
+        let tables = Tables {
+            permanent,
+            temporary: vec![],
+        };
+        assert_eq!(asked(&tables, 125, 0, 8), [number; 3]);
+    }
+    assert_eq!(derived(&temporary, 0), 2);
+    let exchanged = Tables {
+        permanent: temporary,
+        temporary: permanent,
+    };
+    assert_eq!(asked(&exchanged, 125, 0, 8), [2; 3]);
+}
+
+/// 1 to 7 of the temporary table, whatever else is wrong with the question.
+#[test]
+fn a_wrong_temporary_table() {
+    let Tables {
+        permanent,
+        temporary,
+    } = filled();
+    for (number, mut temporary) in faults(&temporary) {
+        assert_eq!(arrival(&temporary, &[]), number);
+        if let Some(feature) = temporary.get_mut(8) {
+            *feature = 0;
+        }
+        let tables = Tables {
+            permanent: permanent.clone(),
+            temporary,
+        };
+        assert_eq!(asked(&tables, 125, RECORD_BYTES, 8), [0, number, number]);
+        assert_eq!(asked(&tables, 125, 0, 8), [23, number, number]);
+    }
+    let twice = Tables {
+        temporary: permanent.clone(),
+        permanent,
+    };
+    assert_eq!(asked(&twice, 125, RECORD_BYTES, 0), [0, 2, 2]);
+}
+
+/// 1 of a new table; its side is one of two by its type.
+#[test]
+fn no_place_for_a_new_table() {
+    for side in [Side::Permanent, Side::Temporary] {
+        for length in [0, 1, 31] {
+            assert_eq!(
+                lent(&vec![FILL; length], |table| new_table(
+                    table, side, &FEATURE
+                )),
+                1
+            );
+        }
+        assert_eq!(
+            lent(&[FILL; 32], |table| new_table(table, side, &FEATURE)),
+            0
+        );
+    }
+}
+
+/// 9 to 14: slices that are wrong whatever their kind.
+#[test]
+fn a_wrong_slice() {
+    let Tables {
+        permanent,
+        temporary,
+    } = filled();
+    let spare = |place| with(t(3, 120, 140, 5), place, &[1]);
+    let blank = cancelled(3, 1);
+    let mut wrong = vec![(10, with(t(3, 120, 140, 5), 0, &[1])), (10, spare(15))];
+    wrong.extend([0, 1, 2, 4, 255].map(|kind| (11, with(t(3, 120, 140, 5), 16, &[kind]))));
+    wrong.extend([2, 3, 128, 255].map(|flags| (12, with(blank, FLAGS, &[flags]))));
+    wrong.extend((40..48).map(|place| (12, spare(place))));
+    wrong.extend((24..40).map(|place| (13, with(blank, place, &[254]))));
+    wrong.extend((48..240).map(|place| (13, with(blank, place, &[1]))));
+    wrong.extend(broken_properties().map(|slice| (14, slice)));
+    for (number, slice) in wrong {
+        assert_eq!(arrival(&temporary, &slice), number);
+    }
+    for length in [0, 1, 16, 239] {
+        assert_eq!(arrival(&temporary, &t(3, 120, 140, 5)[..length]), 9);
+    }
+    assert_eq!(arrival(&temporary, &[0; 241]), 9);
+    assert_eq!(arrival(&permanent, &t(3, 120, 140, 5)), 11);
+    assert_eq!(arrival(&temporary, &blank), 0);
+}
+
+/// The first bytes of properties that break the layout; the rest is zero.
+const BROKEN: [&[u8]; 13] = [
+    &[6],
+    &[255],
+    &[0, 1],
+    &[0, 0, 0, 0, 0, 0, 0, 1],
+    &[1, 0],
+    &[1, 6],
+    &[1, 1, 0, 0, 0, 0, 0, 0, 1],
+    &[2, 1],
+    &[2, 0, 0, 0, 0, 0, 0, 0, 0, 0, 1],
+    &[3, 0, 0, 0, 0, 0, 0, 0, 0, 0, 0, 0, 1],
+    &[4, 0],
+    &[4, 5],
+    &[5, 1],
+];
+
+/// Forms and details of properties, with two doubles that break the layout.
+const WRONG_DOUBLES: [([u8; 2], [f64; 2]); 8] = [
+    ([4, 1], [f64::NAN, 0.0]),
+    ([4, 2], [f64::INFINITY, 0.0]),
+    ([4, 3], [1.0, 1.0]),
+    ([5, 0], [90.01, 0.0]),
+    ([5, 0], [-90.01, 0.0]),
+    ([5, 0], [0.0, 180.01]),
+    ([5, 0], [0.0, -180.01]),
+    ([5, 0], [0.0, f64::NAN]),
+];
+
+/// Makes slices with a property that breaks the layout, the times wrong as well.
+fn broken_properties() -> impl Iterator<Item = Slice> {
+    let doubles = WRONG_DOUBLES.map(|(form, [one, other])| {
+        let numbers = [one.to_be_bytes(), other.to_be_bytes()].concat();
+        [&form[..], &[0; 6], &numbers].concat()
+    });
+    let parts = BROKEN.map(<[u8]>::to_vec).into_iter().chain(doubles);
+    let places = (0..8).cycle().map(|property| PARTS + 24 * property);
+    parts
+        .zip(places)
+        .map(|(part, place)| with(blank(3, 9), place, &part))
+}
+
+/// Begin, end, life begin and life end of slices, by their kind; one is wrong in each.
+const WRONG_TIMES: [(u8, [u32; 4]); 15] = [
+    (1, [NONE, NONE, NONE, NONE]),
+    (1, [100, 100, NONE, NONE]),
+    (1, [100, 99, NONE, NONE]),
+    (1, [100, NONE, 101, NONE]),
+    (1, [100, NONE, NONE, 100]),
+    (1, [100, 301, NONE, 300]),
+    (2, [NONE, NONE, NONE, NONE]),
+    (2, [100, 200, NONE, NONE]),
+    (2, [100, NONE, 99, NONE]),
+    (2, [100, NONE, NONE, 101]),
+    (2, [100, NONE, 100, 100]),
+    (3, [NONE, 100, NONE, NONE]),
+    (3, [100, 100, NONE, NONE]),
+    (3, [100, 200, 100, NONE]),
+    (3, [100, 200, NONE, 200]),
+];
+
+/// 15: the times of each kind, the content wrong as well.
+#[test]
+fn wrong_times() {
+    let tables = filled();
+    for (kind, times) in WRONG_TIMES {
+        let bytes = times.map(u32::to_be_bytes).concat();
+        let slice = with(blank(kind, 9), TIMES, &bytes);
+        let table = match kind {
+            3 => &tables.temporary,
+            _ => &tables.permanent,
+        };
+        assert_eq!(arrival(table, &slice), 15, "{kind} {times:?}");
+    }
+}
+
+/// 16 to 18: the content, other bytes of what is stored, and a full table.
+#[test]
+fn slices_that_the_table_does_not_take() {
+    let Tables {
+        permanent,
+        temporary,
+    } = filled();
+    for property in 0..8 {
+        let missing = with(b(9, 100, NONE, 1), PARTS + 24 * property, &[0; 10]);
+        assert_eq!(arrival(&permanent, &missing), 16);
+    }
+    for (table, kind) in [(&permanent, 2), (&temporary, 3)] {
+        assert_eq!(arrival(table, &timed(blank(kind, 9), TIMES, 100)), 16);
+    }
+    assert_eq!(arrival(&permanent, &p(1, 150, 3)), 17);
+    assert_eq!(arrival(&temporary, &with(blank(3, 1), FLAGS, &[1])), 17);
+    let full = Tables::of(&[base(), p(1, 150, 2), p(2, 150, 2), p(3, 150, 2)]).permanent;
+    assert_eq!(arrival(&full, &p(4, 150, 2)), 18);
+    assert_eq!(arrival(&full, &b(2, 100, NONE, 1)), 18);
+    assert_eq!(arrival(&full, &p(3, 150, 3)), 17);
+    assert_eq!(arrival(&full, &cancelled(2, 3)), 0);
+}
+
+/// 8 and 19 to 23 of the questions, in their order.
+#[test]
+fn questions_that_have_no_answer() {
+    let mut tables = Tables::of(&[base(), b(2, 200, NONE, 2)]);
+    assert_eq!(asked(&tables, 199, RECORD_BYTES, 7), [0; 3]);
+    assert_eq!(asked(&tables, 99, RECORD_BYTES, 7), [20; 3]);
+    assert_eq!(asked(&tables, 200, RECORD_BYTES, 7), [21; 3]);
+    assert_eq!(asked(&tables, 99, 223, 8), [23, 23, 19]);
+    assert_eq!(asked(&tables, 200, 225, 255), [23, 23, 19]);
+    assert_eq!(asked(&tables, 150, 0, 8), [23, 23, 19]);
+    tables.temporary[23] ^= 1;
+    assert_eq!(asked(&tables, 200, 0, 8), [23, 8, 8]);
+    let closed = Tables::of(&[base(), closing(300)]);
+    assert_eq!(asked(&closed, 300, RECORD_BYTES, 0), [22; 3]);
+    assert_eq!(asked(&closed, 300, 0, 8), [23, 23, 19]);
+}
+
+/// 21 and 23 of derived baselines.
+#[test]
+fn baselines_that_cannot_be_derived() {
+    let two = Tables::of(&[base(), b(2, 200, NONE, 2)]).permanent;
+    assert_eq!(derived(&two, LARGEST_TABLE), 21);
+    assert_eq!(derived(&two, 0), 21);
+    assert_eq!(listing_string(&two), "refused 21\n");
+    let one = filled().permanent;
+    for length in [0, 31, 32, 479] {
+        assert_eq!(derived(&one, length), 23);
+    }
+    assert_eq!(derived(&one, 480), 0);
+}
+
+/// 23 where there are too many: a life that opens at 10, and BASELINEs with gaps between, each of which
+/// changes the state at its begin and at its end.
+#[test]
+fn more_baselines_than_a_table_holds() {
+    let mut table = empty(Side::Permanent, 256);
+    assert_eq!(
+        number(arrive(&mut table, &timed(p(1, 10, 1), LIFE_BEGIN, 10))),
+        0
+    );
+    for sequence in 0..128 {
+        let begin = 100 + 20 * u32::from(sequence);
+        assert_eq!(derived(&table, LARGEST_TABLE), 0);
+        assert_eq!(
+            number(arrive(&mut table, &b(sequence, begin, begin + 10, 1))),
+            0
+        );
+    }
+    assert_eq!(derived(&table, LARGEST_TABLE), 23);
+    assert_eq!(derived(&table, LARGEST_TABLE + 1000), 23);
+    assert_eq!(listing_string(&table), "refused 23\n");
+}
