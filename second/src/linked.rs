@@ -3,62 +3,9 @@
 use crate::library::{Library, Reply};
 use crate::table::Feature;
 
-/// An answer as C has it.
-#[repr(C)]
-struct Answer {
-    kind: u32,
-    number: u32,
-}
-
-/// The answer to a property question as C has it.
-#[repr(C)]
-struct Part {
-    kind: u32,
-    number: u32,
-    at: u64,
-    size: u64,
-}
-
-unsafe extern "C" {
-    fn tsl_new_table(table: *mut u8, table_len: usize, side: u8, feature: *const u8) -> Answer;
-    fn tsl_arrive(table: *mut u8, table_len: usize, slice: *const u8, slice_len: usize) -> Answer;
-    fn tsl_permanent_state(
-        permanent: *const u8,
-        permanent_len: usize,
-        instant: u32,
-        record: *mut u8,
-        record_len: usize,
-    ) -> Answer;
-    fn tsl_snapshot(
-        permanent: *const u8,
-        permanent_len: usize,
-        temporary: *const u8,
-        temporary_len: usize,
-        instant: u32,
-        record: *mut u8,
-        record_len: usize,
-    ) -> Answer;
-    fn tsl_property(
-        permanent: *const u8,
-        permanent_len: usize,
-        temporary: *const u8,
-        temporary_len: usize,
-        instant: u32,
-        property: u8,
-    ) -> Part;
-    fn tsl_derive(
-        permanent: *const u8,
-        permanent_len: usize,
-        output: *mut u8,
-        output_len: usize,
-    ) -> Answer;
-    fn tsl_listing(
-        permanent: *const u8,
-        permanent_len: usize,
-        text: *mut u8,
-        text_len: usize,
-    ) -> Answer;
-}
+/// The C interface, declared once for all that link it.
+#[path = "../../bindings/rust/src/raw.rs"]
+mod raw;
 
 /// The linked library.
 pub const LINKED: Library = Library {
@@ -71,7 +18,7 @@ pub const LINKED: Library = Library {
     listing,
 };
 
-impl Answer {
+impl raw::Answer {
     /// Answers the reply that says the same.
     fn reply(self) -> Reply {
         Reply::new(self.kind, self.number)
@@ -82,20 +29,20 @@ impl Answer {
 fn new_table(table: &mut [u8], side: u8, feature: &Feature) -> Reply {
     // SAFETY: the pointers and the length are those of live parts that nobody else uses meanwhile;
     // the feature has the 16 bytes that the call reads.
-    unsafe { tsl_new_table(table.as_mut_ptr(), table.len(), side, feature.as_ptr()) }.reply()
+    unsafe { raw::tsl_new_table(table.as_mut_ptr(), table.len(), side, feature) }.reply()
 }
 
 /// Calls the library for an arrival.
 fn arrive(table: &mut [u8], slice: &[u8]) -> Reply {
     // SAFETY: both pointers and lengths are those of live parts that do not overlap.
-    unsafe { tsl_arrive(table.as_mut_ptr(), table.len(), slice.as_ptr(), slice.len()) }.reply()
+    unsafe { raw::tsl_arrive(table.as_mut_ptr(), table.len(), slice.as_ptr(), slice.len()) }.reply()
 }
 
 /// Calls the library for a permanent state.
 fn permanent_state(permanent: &[u8], instant: u32, record: &mut [u8]) -> Reply {
     // SAFETY: both pointers and lengths are those of live parts that do not overlap.
     unsafe {
-        tsl_permanent_state(
+        raw::tsl_permanent_state(
             permanent.as_ptr(),
             permanent.len(),
             instant,
@@ -110,7 +57,7 @@ fn permanent_state(permanent: &[u8], instant: u32, record: &mut [u8]) -> Reply {
 fn snapshot(permanent: &[u8], temporary: &[u8], instant: u32, record: &mut [u8]) -> Reply {
     // SAFETY: the pointers and lengths are those of live parts; the record overlaps neither table.
     unsafe {
-        tsl_snapshot(
+        raw::tsl_snapshot(
             permanent.as_ptr(),
             permanent.len(),
             temporary.as_ptr(),
@@ -127,7 +74,7 @@ fn snapshot(permanent: &[u8], temporary: &[u8], instant: u32, record: &mut [u8])
 fn property(permanent: &[u8], temporary: &[u8], instant: u32, property: u8) -> Reply {
     // SAFETY: both pointers and lengths are those of live parts, which are only read.
     let part = unsafe {
-        tsl_property(
+        raw::tsl_property(
             permanent.as_ptr(),
             permanent.len(),
             temporary.as_ptr(),
@@ -148,12 +95,12 @@ fn property(permanent: &[u8], temporary: &[u8], instant: u32, property: u8) -> R
 fn derive(permanent: &[u8], output: &mut [u8]) -> Reply {
     let (length, place) = (output.len(), output.as_mut_ptr());
     // SAFETY: both pointers and lengths are those of live parts that do not overlap.
-    unsafe { tsl_derive(permanent.as_ptr(), permanent.len(), place, length) }.reply()
+    unsafe { raw::tsl_derive(permanent.as_ptr(), permanent.len(), place, length) }.reply()
 }
 
 /// Calls the library for a listing.
 fn listing(permanent: &[u8], text: &mut [u8]) -> Reply {
     let (length, place) = (text.len(), text.as_mut_ptr());
     // SAFETY: both pointers and lengths are those of live parts that do not overlap.
-    unsafe { tsl_listing(permanent.as_ptr(), permanent.len(), place, length) }.reply()
+    unsafe { raw::tsl_listing(permanent.as_ptr(), permanent.len(), place, length) }.reply()
 }

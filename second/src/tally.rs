@@ -30,7 +30,7 @@ struct Answers {
     words: &'static [&'static str],
 }
 
-/// The refusals of a derivation, but for 24, which no table is known to bring about.
+/// The refusals of a derivation, but for 24, which no table brings about.
 const DERIVED: &[u32] = &[1, 2, 3, 4, 5, 6, 7, 21, 23];
 
 /// Everything that may be answered.

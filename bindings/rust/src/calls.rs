@@ -275,7 +275,7 @@ impl raw::Part {
 /// # Errors
 ///
 /// The first of these [refusals](Refusal) that applies: 1 to 7 of the table; 21: two anchors at a change
-/// instant; 24, which by the rules cannot come up; 23: there are over 256 records, or more than the output
+/// instant; 24, which is proved never to come up; 23: there are over 256 records, or more than the output
 /// holds.
 ///
 /// # Examples

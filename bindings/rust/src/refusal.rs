@@ -12,8 +12,9 @@ macro_rules! refusals {
         /// the order that it states.
         ///
         /// By what is proved of the library it gives the numbers 1 to 24 and no other, so that no call
-        /// answers the last case. That one is there because a linker takes any archive of the right name: an answer that
-        /// this crate does not know is handed on, and nothing panics over it.
+        /// answers the last case. That one is there because a linker takes any archive of the right name:
+        /// an answer that this crate does not know is handed on, and nothing panics over it. Later
+        /// versions may have further cases.
         ///
         /// ```
         /// use timeslices::Refusal;
@@ -25,6 +26,7 @@ macro_rules! refusals {
         /// assert!(Refusal::try_from(25).is_err());
         /// ```
         #[derive(Clone, Copy, Debug, PartialEq, Eq, Hash)]
+        #[non_exhaustive]
         pub enum Refusal {
             $(
                 #[doc = concat!(stringify!($number), ": ", $sentence, ".")]
