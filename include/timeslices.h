@@ -168,7 +168,7 @@ tsl_part tsl_property(const uint8_t *permanent, size_t permanent_len, const uint
  *      6   some record in the table fails 11 to 16 of an arrival
  *      7   the records are not in strictly rising order of kind, then sequence number
  *     21   two anchors at a change instant
- *     24   a derived record fails the slice check
+ *     24   a derived record fails the slice check; it is proved that this does not come up
  *     23   over 256 records, or more than the output holds
  */
 tsl_answer tsl_derive(const uint8_t *permanent, size_t permanent_len, uint8_t *output, size_t output_len);
