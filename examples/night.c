@@ -47,7 +47,7 @@ static void put_length(uint8_t *property, double metres) {
     put(property + 8, 8, bits);
 }
 
-/* Returns the length that a property holds, in its own unit. */
+/* Returns the length in metres that a property holds. */
 static double length_of(const uint8_t *property) {
     uint64_t bits = 0;
     double metres;
