@@ -41,7 +41,7 @@
  *   The question
  *     19   the instant is none, or the property number is over 7
  *     20   no state is known at the instant
- *     21   two anchors at the instant (a derivation: at any instant)
+ *     21   two anchors at the instant (a derivation: at a change instant)
  *     22   the feature is withdrawn at the instant
  *     23   the record buffer does not have 224 bytes, or the output cannot hold the derived baselines
  *     24   a derived record fails the slice check; it is proved that this does not happen
