@@ -1,9 +1,12 @@
 /*
- * The night of the shortened runway, by the C interface. A runway is 3048 M long; a PERMDELTA shortens it to 2100 M at 300 and
- * is cancelled the evening before. The listing of derived baselines and the snapshot are asked for before and after.
+ * The evening of the cancelled runway change, through the C interface. A runway is 3048 M long. A PERMDELTA shortens it to
+ * 2100 M at 300, and is cancelled the evening before. The program prints the listing of derived baselines and the runway's
+ * length, before and after the cancellation. docs/FORMAT.md describes the bytes that it writes.
  *
  *     make lib
- *     cc -std=c11 -Iinclude examples/night.c target/staticlib/libtimeslices.a -o night     (target/native on another processor)
+ *     cc -std=c11 -Iinclude examples/night.c target/staticlib/libtimeslices.a -o night
+ *
+ * On a processor other than x86-64 the archive is target/native/libtimeslices.a.
  */
 #include <stdio.h>
 #include <string.h>
@@ -27,7 +30,7 @@ enum { METRES = 1, UNKNOWN = 4 };
 static const uint32_t NONE = 0xffffffffu;
 static const uint8_t RUNWAY[16] = {0x5e, 0x1f, 0x09, 0xd4, 0x3a, 0x77, 0x4c, 0x10, 0x9b, 0x02, 0x60, 0x0d, 0xfe, 0xed, 0x00, 0x27};
 
-/* Writes a number into so many bytes, the highest first. */
+/* Writes a number into count bytes, big-endian. */
 static void put(uint8_t *bytes, int count, uint64_t number) {
     for (int i = count - 1; i >= 0; i--) {
         bytes[i] = (uint8_t)(number & 0xff);
@@ -35,7 +38,7 @@ static void put(uint8_t *bytes, int count, uint64_t number) {
     }
 }
 
-/* Writes a property that is a length in metres. */
+/* Writes a length in metres into a property. */
 static void put_length(uint8_t *property, double metres) {
     uint64_t bits;
     memcpy(&bits, &metres, sizeof bits);
@@ -44,7 +47,7 @@ static void put_length(uint8_t *property, double metres) {
     put(property + 8, 8, bits);
 }
 
-/* Answers the length in metres that a property holds. */
+/* Returns the length in metres that a property holds. */
 static double length_of(const uint8_t *property) {
     uint64_t bits = 0;
     double metres;
@@ -55,7 +58,7 @@ static double length_of(const uint8_t *property) {
     return metres;
 }
 
-/* Writes a slice that mentions no property: the feature, kind, correction and sequence number 1, begin and life begin. */
+/* Writes a slice with sequence number 1 that mentions no property: feature, kind, correction number, begin and life begin. */
 static void begin_slice(uint8_t *slice, uint8_t kind, uint16_t correction, uint32_t begin, uint32_t life_begin) {
     uint8_t *record = slice + sizeof RUNWAY;
     memset(slice, 0, SLICE_BYTES);
@@ -69,12 +72,12 @@ static void begin_slice(uint8_t *slice, uint8_t kind, uint16_t correction, uint3
     put(record + 20, 4, NONE);
 }
 
-/* Answers where a property stands in a slice. */
+/* Returns the bytes of a property in a slice. */
 static uint8_t *property_of(uint8_t *slice, int index) {
     return slice + sizeof RUNWAY + HEADER_BYTES + index * PROPERTY_BYTES;
 }
 
-/* Writes the BASELINE from 100 on: 3048 M long, its surface a code, everything else unknown. */
+/* Writes the BASELINE from 100 on: 3048 M long, property 1 a code, everything else unknown. */
 static void write_baseline(uint8_t *slice) {
     begin_slice(slice, BASELINE, 0, 100, 100);
     put_length(property_of(slice, 0), 3048.0);
@@ -92,13 +95,13 @@ static void write_change(uint8_t *slice) {
     put_length(property_of(slice, 0), 2100.0);
 }
 
-/* Writes its cancellation, which is correction 1: no time is given and nothing is mentioned. */
+/* Writes the cancellation of that PERMDELTA: correction 1, no times, no properties. */
 static void write_cancellation(uint8_t *slice) {
     begin_slice(slice, PERMDELTA, 1, NONE, NONE);
     slice[sizeof RUNWAY + 1] = 1;
 }
 
-/* Delivers a slice and prints what the table made of it. */
+/* Delivers a slice and prints the answer. */
 static void deliver(uint8_t *table, const uint8_t *slice, const char *what) {
     static const char *const answers[] = {"refused", "Added", "Replaced", "Superseded", "Repeat"};
     tsl_answer answer = tsl_arrive(table, TABLE_BYTES, slice, SLICE_BYTES);
@@ -116,7 +119,7 @@ static void list(const uint8_t *table) {
     fwrite(text, 1, answer.number, stdout);
 }
 
-/* Prints the runway's length in the snapshot at an instant, as the record says it and as the property question finds it. */
+/* Prints the runway's length at an instant: from the snapshot, and from the property in its table. */
 static void ask(const uint8_t *permanent, const uint8_t *temporary, uint32_t instant) {
     uint8_t record[RECORD_BYTES];
     tsl_answer snapshot = tsl_snapshot(permanent, TABLE_BYTES, temporary, HEADER_BYTES, instant, record, sizeof record);

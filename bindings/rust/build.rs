@@ -1,12 +1,12 @@
-//! Tells where the archive of the library is.
+//! Finds the archive of the library.
 
 use std::env;
 use std::path::{Path, PathBuf};
 
-/// The variable that names the folder of the archive.
+/// The environment variable that names the folder of the archive.
 const FOLDER: &str = "TIMESLICES_LIB_DIR";
 
-/// Writes the link lines, or says what is missing.
+/// Tells cargo to link the archive, or prints what is missing.
 fn main() {
     println!("cargo:rerun-if-changed=build.rs");
     println!("cargo:rerun-if-env-changed={FOLDER}");
@@ -25,8 +25,8 @@ fn main() {
     println!("cargo:rustc-link-lib=static=timeslices");
 }
 
-/// Answers the folder of the archive: the one that the variable names, from the crate's own folder on where
-/// it is relative, or else the one that `make lib` writes to.
+/// Returns the folder of the archive: the one that the variable names (a relative path begins at this crate's
+/// folder), or the one that `make lib` writes to.
 fn folder() -> PathBuf {
     let here = env::var_os("CARGO_MANIFEST_DIR").unwrap_or_default();
     let here = Path::new(&here);

@@ -1,12 +1,11 @@
-//! The night of the cancelled runway change, told for a load planner.
+//! The evening of the cancelled runway change, for a load planner.
 //!
 //! A runway is 3048 M long. A PERMDELTA shortens it to 2100 M at 2020-12-31T00:00:00Z. The evening before,
-//! the change is cancelled, and late in the evening the change itself comes once more. The night is planned
-//! with 3048 M: a cancelled change is not seen again.
+//! the change is cancelled, and then the change itself arrives once more. The night is planned with 3048 M:
+//! the cancelled change does not come back.
 //!
-//! What it prints is in night.txt beside it: what became of each slice; the listing of the derived
-//! baselines, with the sequence number, begin, end and eight forms of each (4 is a length, 1 a nil); and the
-//! length of the runway at each instant that is planned for.
+//! The program prints night.txt: the answer to each slice, the listing of the derived baselines, and the
+//! length of the runway at each planned instant.
 
 use std::error::Error;
 use std::fmt::Write;
@@ -18,18 +17,18 @@ use timeslices::{
 /// The runway's identifier.
 const RUNWAY: Feature = *b"runway 09L / 27R";
 
-/// The instants to plan for: the last of the old length, the first of the new one, and a departure.
+/// The planned instants: the last one of the old length, the first one of the new length, and a departure.
 const PLANNED: [&str; 3] = [
     "2020-12-30T23:59:59Z",
     "2020-12-31T00:00:00Z",
     "2020-12-31T02:30:00Z",
 ];
 
-/// The two tables of the runway, and what is told of them.
+/// The two tables of the runway, and the text to print.
 struct Desk {
     permanent: Vec<u8>,
     temporary: Vec<u8>,
-    told: String,
+    text: String,
 }
 
 /// Prints the night.
@@ -38,7 +37,7 @@ fn main() -> Result<(), Box<dyn Error>> {
     Ok(())
 }
 
-/// Tells the night.
+/// Returns the text to print.
 pub fn night() -> Result<String, Box<dyn Error>> {
     let mut desk = Desk::new()?;
     let shortening = shortening("2020-12-31T00:00:00Z".parse()?);
@@ -48,45 +47,45 @@ pub fn night() -> Result<String, Box<dyn Error>> {
     )?;
     desk.take("its shortening to 2100 M", &shortening)?;
     desk.plan()?;
-    desk.told.push_str("\nThe evening before:\n");
+    desk.text.push_str("\nThe evening before:\n");
     desk.take("the cancellation, correction 1", &cancellation())?;
     desk.take("the shortening once more, correction 0", &shortening)?;
     desk.plan()?;
-    Ok(desk.told)
+    Ok(desk.text)
 }
 
 impl Desk {
-    /// Makes two tables without records.
+    /// Creates two empty tables.
     fn new() -> Result<Desk, Box<dyn Error>> {
         let (mut permanent, mut temporary) = (vec![0; table_bytes(20)], vec![0; table_bytes(20)]);
         new_table(&mut permanent, Side::Permanent, &RUNWAY)?;
         new_table(&mut temporary, Side::Temporary, &RUNWAY)?;
-        let told = String::new();
+        let text = String::new();
         Ok(Desk {
             permanent,
             temporary,
-            told,
+            text,
         })
     }
 
-    /// Takes a slice into the permanent table, and tells what became of it.
+    /// Delivers a slice to the permanent table, and adds the answer to the text.
     fn take(&mut self, name: &str, slice: &[u8]) -> Result<(), Box<dyn Error>> {
         let arrival = arrive(&mut self.permanent, slice)?;
-        Ok(writeln!(self.told, "{arrival:?}: {name}")?)
+        Ok(writeln!(self.text, "{arrival:?}: {name}")?)
     }
 
-    /// Tells the derived baselines, and the runway's length at each instant that is planned for.
+    /// Adds the listing to the text, and the runway's length at each planned instant.
     fn plan(&mut self) -> Result<(), Box<dyn Error>> {
         let listing = listing_string(&self.permanent);
-        write!(self.told, "\n{listing}\n")?;
+        write!(self.text, "\n{listing}\n")?;
         for planned in PLANNED {
             let length = self.length(planned.parse()?)?;
-            writeln!(self.told, "{planned} the runway is {length} M long")?;
+            writeln!(self.text, "{planned} the runway is {length} M long")?;
         }
         Ok(())
     }
 
-    /// Answers the runway's length at an instant, from the snapshot, which the property agrees with.
+    /// Returns the runway's length at an instant, from the snapshot; the property must agree.
     fn length(&self, instant: Instant) -> Result<f64, Box<dyn Error>> {
         let mut record = [0; RECORD_BYTES];
         snapshot(&self.permanent, &self.temporary, instant, &mut record)?;
@@ -98,7 +97,7 @@ impl Desk {
     }
 }
 
-/// Makes a slice of a kind (1 BASELINE, 2 PERMDELTA) and of sequence number 1, without a time.
+/// Makes a slice of a kind (1 BASELINE, 2 PERMDELTA) with sequence number 1, without times.
 fn slice(kind: u8) -> [u8; SLICE_BYTES] {
     let mut slice = [0; SLICE_BYTES];
     slice[..16].copy_from_slice(&RUNWAY);
@@ -117,7 +116,7 @@ fn measured(kind: u8, begin: Instant, metres: f64) -> [u8; SLICE_BYTES] {
     slice
 }
 
-/// Makes the BASELINE: 3048 M from an instant on, with which its life begins; the rest is nil, unknown.
+/// Makes the BASELINE: 3048 M from an instant on, at which its life begins; the rest is nil, unknown.
 fn runway(begin: Instant) -> [u8; SLICE_BYTES] {
     let mut slice = measured(1, begin, 3048.0);
     slice[32..36].copy_from_slice(&begin.to_be_bytes());
@@ -132,7 +131,7 @@ fn shortening(instant: Instant) -> [u8; SLICE_BYTES] {
     measured(2, instant, 2100.0)
 }
 
-/// Makes the cancellation of the PERMDELTA, its correction 1: neither a time nor a property.
+/// Makes the cancellation of the PERMDELTA: correction 1, no times, no properties.
 fn cancellation() -> [u8; SLICE_BYTES] {
     let mut slice = slice(2);
     slice[17] = 1;

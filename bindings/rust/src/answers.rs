@@ -1,4 +1,4 @@
-//! What a call takes and answers beside bytes and refusals.
+//! What calls take and return besides bytes and refusals.
 
 use std::error::Error;
 use std::fmt;
@@ -6,45 +6,47 @@ use std::fmt;
 /// The side of a table.
 #[derive(Clone, Copy, Debug, PartialEq, Eq, Hash)]
 pub enum Side {
-    /// The permanent table, which holds BASELINEs and PERMDELTAs.
+    /// The permanent table. It holds BASELINEs and PERMDELTAs.
     Permanent,
-    /// The temporary table, which holds TEMPDELTAs.
+    /// The temporary table. It holds TEMPDELTAs.
     Temporary,
 }
 
-/// What became of a slice that was not refused.
+/// What an accepted slice did to the table.
 #[derive(Clone, Copy, Debug, PartialEq, Eq, Hash)]
 pub enum Arrival {
     /// Kind and sequence number are new; the record was put in its place.
     Added,
-    /// The correction number is higher than the stored one; the record took its room.
+    /// The correction number is higher than the stored one; the record replaced the stored one.
     Replaced,
     /// The correction number is lower than the stored one; nothing changed.
     Superseded,
-    /// Correction number and bytes equal the stored ones; nothing changed.
+    /// Correction number and bytes are equal to the stored ones; nothing changed.
     Repeat,
 }
 
-/// Where a property was mentioned last, and its bytes there.
+/// The record that mentioned a property last: its table, and the property's bytes.
 #[derive(Clone, Copy, Debug, PartialEq, Eq, Hash)]
 pub enum Mention<'a> {
-    /// A record of the permanent table mentioned it last: the property's bytes, a part of that table.
+    /// A record of the permanent table mentioned it last. The bytes are borrowed from that table.
     Permanent(&'a [u8]),
-    /// A record of the temporary table mentioned it last: the property's bytes, a part of that table.
+    /// A record of the temporary table mentioned it last. The bytes are borrowed from that table.
     Temporary(&'a [u8]),
-    /// A state is known, and nothing mentions the property.
+    /// A state is known, but no record mentions the property.
     Unmentioned,
 }
 
-/// How many bytes a listing needs that did not fit its place.
+/// The error of a listing that does not fit its buffer.
 #[derive(Clone, Copy, Debug, PartialEq, Eq, Hash)]
 pub struct ListingNeeds(
-    /// The number of bytes.
+    /// The number of bytes that the listing needs.
     pub usize,
 );
 
 impl Side {
-    /// Answers the byte that names the side in a table.
+    /// Returns the byte of a table's header that gives its side.
+    ///
+    /// # Examples
     ///
     /// ```
     /// use timeslices::Side;
@@ -60,7 +62,9 @@ impl Side {
 }
 
 impl<'a> Mention<'a> {
-    /// Answers the property's bytes, whichever table they stand in.
+    /// Returns the property's bytes from either table, or `None` if it is unmentioned.
+    ///
+    /// # Examples
     ///
     /// ```
     /// use timeslices::Mention;
@@ -77,11 +81,11 @@ impl<'a> Mention<'a> {
 }
 
 impl fmt::Display for ListingNeeds {
-    /// Writes what is wrong.
+    /// Writes the error as a sentence.
     fn fmt(&self, f: &mut fmt::Formatter<'_>) -> fmt::Result {
         write!(
             f,
-            "the listing needs {} bytes, more than its place has",
+            "the listing needs {} bytes, more than its buffer has",
             self.0
         )
     }

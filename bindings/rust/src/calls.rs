@@ -7,7 +7,7 @@ use crate::refusal::Refusal;
 use crate::{Feature, LISTING_BYTES};
 
 impl raw::Answer {
-    /// Answers the number that goes with kind 1, done; every other kind is a refusal.
+    /// Returns the number that belongs to kind 1; any other kind is a refusal.
     fn done(self) -> Result<usize, Refusal> {
         match self.kind {
             1 => Ok(self.number as usize),
@@ -16,14 +16,14 @@ impl raw::Answer {
     }
 }
 
-/// Makes the table of a side and a feature, with no record.
+/// Creates an empty table of a side and a feature.
 ///
-/// The 32 bytes of the header are written and no other. The table has room for the lesser of 256 and the
-/// whole records that fit behind the header; [`table_bytes`](crate::table_bytes) says how long to make it.
+/// Writes the 32 bytes of the header and nothing else. Checks only the buffer's length; old contents are
+/// ignored. [`table_bytes`](crate::table_bytes) returns the length for a number of records.
 ///
 /// # Errors
 ///
-/// [`Refusal`] 1: the table is under 32 bytes. The side cannot be wrong here.
+/// Returns [refusal](Refusal) 1 if the table has fewer than 32 bytes.
 ///
 /// # Examples
 ///
@@ -38,21 +38,21 @@ impl raw::Answer {
 /// # Ok::<(), Refusal>(())
 /// ```
 pub fn new_table(table: &mut [u8], side: Side, feature: &Feature) -> Result<(), Refusal> {
-    // SAFETY: the table is lent for writing, so that nothing overlaps it, and has the bytes of its length;
-    // the feature has the 16 bytes that are read. The library keeps neither pointer.
+    // SAFETY: the table is borrowed mutably, so nothing overlaps it, and it has as many bytes as its length
+    // says. The feature has 16 bytes. The library keeps neither pointer.
     let answer =
         unsafe { raw::tsl_new_table(table.as_mut_ptr(), table.len(), side.byte(), feature) };
     answer.done().map(drop)
 }
 
-/// Takes a slice in delivery (the feature's identifier and a record) into a table of either side.
+/// Delivers a slice to a table of either side.
 ///
-/// The table then holds, for each kind and sequence number, the highest correction received, in whatever
-/// order the slices came. No byte beyond the records then counted is written.
+/// The table holds the highest correction received of each kind and sequence number, in whatever order the
+/// slices arrive. Writes no byte after the last record that the table then counts.
 ///
 /// # Errors
 ///
-/// The first of these [refusals](Refusal) that applies: 1 to 7 of the table, 9 to 18 of the slice.
+/// Returns one of the [refusals](Refusal) 1 to 7 and 9 to 18.
 ///
 /// # Examples
 ///
@@ -65,9 +65,9 @@ pub fn new_table(table: &mut [u8], side: Side, feature: &Feature) -> Result<(), 
 /// let mut slice = [0; SLICE_BYTES];
 /// slice[..16].fill(7); // the feature
 /// slice[16] = 3; // a TEMPDELTA
-/// slice[23] = 1; // of sequence number 1
+/// slice[23] = 1; // sequence number 1
 /// slice[27] = 120; // from 120 on
-/// slice[28..40].fill(255); // without an end or a life
+/// slice[28..40].fill(255); // no end, no life begin, no life end
 /// slice[48] = 1; // property 0 is nil
 /// slice[49] = 4; // unknown
 /// assert_eq!(arrive(&mut table, &slice), Ok(Arrival::Added));
@@ -77,13 +77,13 @@ pub fn new_table(table: &mut [u8], side: Side, feature: &Feature) -> Result<(), 
 /// slice[19] = 1; // correction 1
 /// assert_eq!(arrive(&mut table, &slice), Ok(Arrival::Replaced));
 /// assert_eq!(arrive(&mut table, &first), Ok(Arrival::Superseded));
-/// slice[49] = 5; // withheld, and yet correction 1
+/// slice[49] = 5; // withheld, but correction 1 again
 /// assert_eq!(arrive(&mut table, &slice), Err(Refusal::OtherBytes));
 /// # Ok::<(), Refusal>(())
 /// ```
 pub fn arrive(table: &mut [u8], slice: &[u8]) -> Result<Arrival, Refusal> {
-    // SAFETY: both have the bytes of their lengths, and the table is lent for writing, so that the slice
-    // does not overlap it. The library keeps neither pointer.
+    // SAFETY: both have as many bytes as their lengths say. The table is borrowed mutably, so the slice does
+    // not overlap it. The library keeps neither pointer.
     let answer =
         unsafe { raw::tsl_arrive(table.as_mut_ptr(), table.len(), slice.as_ptr(), slice.len()) };
     match answer.kind {
@@ -97,13 +97,9 @@ pub fn arrive(table: &mut [u8], slice: &[u8]) -> Result<Arrival, Refusal> {
 
 /// Writes the permanent state at an instant into a record of 224 bytes.
 ///
-/// The record has kind 4, flags, correction and sequence number 0, the instant as its begin and no end, the
-/// life times of the state and its eight properties, one that nothing mentions as nil, unknown.
-///
 /// # Errors
 ///
-/// The first of these [refusals](Refusal) that applies: 1 to 7 of the table; 23: the record is not 224 bytes
-/// long; 21, 20 and 22, in this order.
+/// Returns one of the [refusals](Refusal) 1 to 7 and 20 to 23.
 ///
 /// # Examples
 ///
@@ -129,8 +125,8 @@ pub fn permanent_state(
     record: &mut [u8],
 ) -> Result<(), Refusal> {
     let (place, length) = (record.as_mut_ptr(), record.len());
-    // SAFETY: both have the bytes of their lengths, and the record is lent for writing, so that the table
-    // does not overlap it. The library keeps neither pointer.
+    // SAFETY: both have as many bytes as their lengths say. The record is borrowed mutably, so the table does
+    // not overlap it. The library keeps neither pointer.
     let answer = unsafe {
         raw::tsl_permanent_state(
             permanent.as_ptr(),
@@ -143,16 +139,14 @@ pub fn permanent_state(
     answer.done().map(drop)
 }
 
-/// Writes the snapshot at an instant into a record of 224 bytes: the permanent state with the TEMPDELTAs
-/// that are valid then.
+/// Writes the snapshot at an instant into a record of 224 bytes.
 ///
-/// The record is laid out as by [`permanent_state`].
+/// The snapshot is the [permanent state](permanent_state), changed by the TEMPDELTAs that are valid at the
+/// instant.
 ///
 /// # Errors
 ///
-/// The first of these [refusals](Refusal) that applies: 1 to 7 of the permanent table, 1 to 7 of the
-/// temporary one; 8: they name different features; 23: the record is not 224 bytes long; 21, 20 and 22, in
-/// this order.
+/// Returns one of the [refusals](Refusal) 1 to 8, of either table, and 20 to 23.
 ///
 /// # Examples
 ///
@@ -169,7 +163,7 @@ pub fn permanent_state(
 /// assert_eq!(Instant::from_be_bytes(record[8..12].try_into()?), Some(Instant::LAST));
 /// assert_eq!(record[40..48], 2100f64.to_be_bytes());
 ///
-/// temporary[8] = 0; // of another feature now
+/// temporary[8] = 0; // now of another feature
 /// let refused = snapshot(&permanent, &temporary, Instant::LAST, &mut record);
 /// assert_eq!(refused, Err(Refusal::DifferentFeatures));
 /// # Ok::<(), Box<dyn std::error::Error>>(())
@@ -180,7 +174,7 @@ pub fn snapshot(
     instant: Instant,
     record: &mut [u8],
 ) -> Result<(), Refusal> {
-    // SAFETY: all three have the bytes of their lengths, and the record is lent for writing, so that neither
+    // SAFETY: all three have as many bytes as their lengths say. The record is borrowed mutably, so neither
     // table overlaps it. The library keeps none of the pointers.
     let answer = unsafe {
         raw::tsl_snapshot(
@@ -196,20 +190,19 @@ pub fn snapshot(
     answer.done().map(drop)
 }
 
-/// Answers where a property (0 to 7) was mentioned last at an instant, with its 24 bytes, a part of the
-/// table that mentioned it.
+/// Returns the 24 bytes of a property (0 to 7) at an instant, borrowed from the table whose record mentioned
+/// it last.
 ///
-/// The bytes are those of the property in the [`snapshot`]. One that nothing mentions has none here; the
-/// snapshot writes it as nil, unknown.
+/// They are the bytes that the [`snapshot`] has for the property. If no record mentions it, the result is
+/// [`Mention::Unmentioned`], and the snapshot has nil, unknown.
 ///
 /// # Errors
 ///
-/// The first of these [refusals](Refusal) that applies: 1 to 7 of the permanent table, 1 to 7 of the
-/// temporary one; 8: they name different features; 19: the property is over 7; 21, 20 and 22, in this order.
+/// Returns one of the [refusals](Refusal) 1 to 8, of either table, and 19 to 22.
 ///
 /// # Examples
 ///
-/// In the sample a runway's length, property 0, and its property 1 are known, and nothing else.
+/// The sample mentions properties 0, the length of a runway, and 1, and no others.
 ///
 /// ```
 /// use timeslices::{new_table, property, Instant, Mention, Refusal, Side, HEADER_BYTES};
@@ -232,8 +225,8 @@ pub fn property<'a>(
     instant: Instant,
     property: u8,
 ) -> Result<Mention<'a>, Refusal> {
-    // SAFETY: both tables have the bytes of their lengths and are only read. The library keeps neither
-    // pointer.
+    // SAFETY: both tables have as many bytes as their lengths say, and are only read. The library keeps
+    // neither pointer.
     let part = unsafe {
         raw::tsl_property(
             permanent.as_ptr(),
@@ -254,7 +247,7 @@ pub fn property<'a>(
 }
 
 impl raw::Part {
-    /// Answers the part of a table; that it lies within the table is proved, and asked nevertheless.
+    /// Returns the part of a table. It is proved to be within the table, and checked here all the same.
     fn of<'a>(&self, table: &'a [u8]) -> Option<&'a [u8]> {
         let (at, size) = (
             usize::try_from(self.at).ok()?,
@@ -264,19 +257,17 @@ impl raw::Part {
     }
 }
 
-/// Derives the baselines of a permanent table into an output, and answers how many there are.
+/// Derives the baselines of a permanent table into an output, and returns how many there are.
 ///
-/// There is one BASELINE for each change instant at which a permanent state exists, until the next change
-/// instant or without end. The output becomes a permanent table of the same feature; its bytes beyond the
-/// records are kept. [`LARGEST_TABLE`](crate::LARGEST_TABLE) bytes hold every result.
+/// The output becomes a permanent table of the same feature; its bytes after the last record are kept.
+/// [`LARGEST_TABLE`](crate::LARGEST_TABLE) bytes hold every result.
 ///
-/// The call takes some 60 kB of stack, which a thread of a small stack must have left.
+/// Uses about 60 kB of stack.
 ///
 /// # Errors
 ///
-/// The first of these [refusals](Refusal) that applies: 1 to 7 of the table; 21: two anchors at a change
-/// instant; 24, which is proved never to come up; 23: there are over 256 records, or more than the output
-/// holds.
+/// Returns one of the [refusals](Refusal) 1 to 7, 21 and 23. (24 is in the order of checks, but it is proved
+/// that it does not occur.)
 ///
 /// # Examples
 ///
@@ -297,24 +288,23 @@ impl raw::Part {
 /// ```
 pub fn derive(permanent: &[u8], output: &mut [u8]) -> Result<usize, Refusal> {
     let (place, length) = (output.as_mut_ptr(), output.len());
-    // SAFETY: both have the bytes of their lengths, and the output is lent for writing, so that the table
-    // does not overlap it. The library keeps neither pointer.
+    // SAFETY: both have as many bytes as their lengths say. The output is borrowed mutably, so the table does
+    // not overlap it. The library keeps neither pointer.
     let answer = unsafe { raw::tsl_derive(permanent.as_ptr(), permanent.len(), place, length) };
     answer.done()
 }
 
-/// Writes the listing of a permanent table's derived baselines, and answers its text.
+/// Writes the listing of a permanent table's derived baselines into a buffer, and returns it as text.
 ///
-/// The text is a line `derived N`, and a line for each record with its sequence number, begin, end or `-`,
-/// and the forms of its eight properties as digits. No table is refused: where [`derive()`] refuses one, for
-/// an output of [`LARGEST_TABLE`](crate::LARGEST_TABLE) bytes, the text is a line `refused N`. The bytes
-/// behind the text are kept. [`LISTING_BYTES`] bytes hold every listing.
+/// No table is refused: if [`derive()`] refuses it for an output of [`LARGEST_TABLE`](crate::LARGEST_TABLE)
+/// bytes, the text is the line `refused N`. The table may have any length. The bytes after the text are kept.
+/// [`LISTING_BYTES`] bytes hold every listing.
 ///
-/// The call takes some 130 kB of stack, which a thread of a small stack must have left.
+/// Uses about 130 kB of stack.
 ///
 /// # Errors
 ///
-/// The length of the text where its place is shorter; then no byte is changed.
+/// Returns the length that the text needs if the buffer is shorter. No byte is changed then.
 ///
 /// # Examples
 ///
@@ -331,8 +321,8 @@ pub fn derive(permanent: &[u8], output: &mut [u8]) -> Result<usize, Refusal> {
 /// ```
 pub fn listing<'a>(permanent: &[u8], text: &'a mut [u8]) -> Result<&'a str, ListingNeeds> {
     let (place, length) = (text.as_mut_ptr(), text.len());
-    // SAFETY: both have the bytes of their lengths, and the place of the text is lent for writing, so that
-    // the table does not overlap it. The library keeps neither pointer.
+    // SAFETY: both have as many bytes as their lengths say. The buffer is borrowed mutably, so the table does
+    // not overlap it. The library keeps neither pointer.
     let answer = unsafe { raw::tsl_listing(permanent.as_ptr(), permanent.len(), place, length) };
     let bytes = answer.number as usize;
     let written = text.get(..bytes).filter(|_| answer.kind == 1);
@@ -340,9 +330,9 @@ pub fn listing<'a>(permanent: &[u8], text: &'a mut [u8]) -> Result<&'a str, List
     written.ok_or(ListingNeeds(bytes))
 }
 
-/// Answers the listing of a permanent table's derived baselines, as [`listing`] writes it.
+/// Returns the [`listing`] of a permanent table's derived baselines as a string.
 ///
-/// The call takes some 130 kB of stack, which a thread of a small stack must have left.
+/// Uses about 130 kB of stack.
 ///
 /// # Examples
 ///
@@ -353,6 +343,6 @@ pub fn listing<'a>(permanent: &[u8], text: &'a mut [u8]) -> Result<&'a str, List
 /// ```
 pub fn listing_string(permanent: &[u8]) -> String {
     let mut text = vec![0; LISTING_BYTES];
-    // there is always a text: no listing needs more
+    // no listing needs more, so there is always a text
     listing(permanent, &mut text).unwrap_or_default().to_owned()
 }

@@ -1,17 +1,17 @@
-//! Instants, and the calendar that they are written in.
+//! Instants and the calendar.
 
 use std::error::Error;
 use std::fmt;
 use std::str::FromStr;
 use std::time::{Duration, SystemTime, UNIX_EPOCH};
 
-/// The number that stands for "none" where a record could give a time; no [`Instant`] has it.
+/// The number that means "none" where a record has a time. No [`Instant`] has it.
 pub const NONE: u32 = u32::MAX;
 
-/// The seconds of a day, of every day.
+/// The seconds of every day.
 const DAY: u32 = 86_400;
 
-/// The year that instants are counted from.
+/// The year with which instants begin.
 const FIRST_YEAR: u16 = 2000;
 
 /// The seconds from the beginning of 1970 to that of 2000: 30 years, seven of them leap years.
@@ -20,10 +20,11 @@ const SINCE_1970: Duration = Duration::from_secs((30 * 365 + 7) * DAY as u64);
 /// The days of a common year before each of its months, and before the next year.
 const BEFORE: [u32; 13] = [0, 31, 59, 90, 120, 151, 181, 212, 243, 273, 304, 334, 365];
 
-/// An instant: whole seconds from 2000-01-01T00:00:00Z, every day having 86,400.
+/// An instant: whole seconds since 2000-01-01T00:00:00Z. Every day has 86,400.
 ///
-/// The last is 4,294,967,294, which is 2136-02-07T06:28:14Z; the number behind it means "none" in a record
-/// and is no instant: where a time may be none, it is an `Option<Instant>`.
+/// The last is 4,294,967,294, which is 2136-02-07T06:28:14Z. The next number, [`NONE`], is not an instant.
+///
+/// # Examples
 ///
 /// ```
 /// use timeslices::{Instant, Utc};
@@ -40,8 +41,11 @@ const BEFORE: [u32; 13] = [0, 31, 59, 90, 120, 151, 181, 212, 243, 273, 304, 334
 #[derive(Clone, Copy, Debug, PartialEq, Eq, PartialOrd, Ord, Hash)]
 pub struct Instant(u32);
 
-/// A date and a time of day in UTC. Any numbers can be written in it; whether there is such a date and time
-/// is asked when it is made an [`Instant`].
+/// A date and a time of day in UTC.
+///
+/// The fields may have any values. Converting it into an [`Instant`] checks them.
+///
+/// # Examples
 ///
 /// ```
 /// use timeslices::{Instant, Utc};
@@ -66,14 +70,14 @@ pub struct Utc {
     pub second: u8,
 }
 
-/// Why something is no instant.
+/// The error of a text, date or time that is not an instant.
 #[derive(Clone, Copy, Debug, PartialEq, Eq, Hash)]
 pub enum NoInstant {
     /// The text is not of the form 2026-11-15T22:54:43Z.
     Form,
     /// The calendar has no such date.
     Date,
-    /// A day has no such time; a minute has 60 seconds always.
+    /// A day has no such time. There are no leap seconds.
     TimeOfDay,
     /// It is before 2000-01-01T00:00:00Z.
     Early,
@@ -88,8 +92,9 @@ impl Instant {
     /// The last instant, 2136-02-07T06:28:14Z.
     pub const LAST: Instant = Instant(NONE - 1);
 
-    /// Answers the instant of a number of seconds from 2000-01-01T00:00:00Z, or nothing where the number
-    /// means "none".
+    /// Returns the instant of a number of seconds since 2000-01-01T00:00:00Z, or `None` for [`NONE`].
+    ///
+    /// # Examples
     ///
     /// ```
     /// use timeslices::{Instant, NONE};
@@ -105,7 +110,9 @@ impl Instant {
         }
     }
 
-    /// Answers the seconds from 2000-01-01T00:00:00Z.
+    /// Returns the number of seconds since 2000-01-01T00:00:00Z.
+    ///
+    /// # Examples
     ///
     /// ```
     /// assert_eq!(timeslices::Instant::LAST.seconds(), 4_294_967_294);
@@ -114,7 +121,9 @@ impl Instant {
         self.0
     }
 
-    /// Answers the instant that four bytes of a record give, if they give one.
+    /// Returns the instant that four bytes of a record give, or `None` if they mean "none".
+    ///
+    /// # Examples
     ///
     /// ```
     /// use timeslices::Instant;
@@ -126,7 +135,9 @@ impl Instant {
         Instant::new(u32::from_be_bytes(bytes))
     }
 
-    /// Answers the four bytes that give the instant in a record.
+    /// Returns the four bytes that give the instant in a record.
+    ///
+    /// # Examples
     ///
     /// ```
     /// let instant: timeslices::Instant = "2000-01-01T00:05:00Z".parse()?;
@@ -137,37 +148,37 @@ impl Instant {
         self.0.to_be_bytes()
     }
 
-    /// Answers the instant of any number of seconds from the beginning of 2000, if it is not too late.
+    /// Returns the instant of a number of seconds since the beginning of 2000, if it is not too late.
     fn counted(seconds: u64) -> Result<Instant, NoInstant> {
         let seconds = u32::try_from(seconds).ok();
         seconds.and_then(Instant::new).ok_or(NoInstant::Late)
     }
 }
 
-/// Answers whether a year has a 29 February.
+/// Returns whether a year has a 29 February.
 fn is_leap(year: u16) -> bool {
     year % 4 == 0 && (year % 100 != 0 || year % 400 == 0)
 }
 
-/// Answers the days from the beginning of 2000 to that of a year: 365 each, and one more for each leap year
-/// between.
+/// Returns the days from the beginning of 2000 to that of a year: 365 for each year, and one for each leap
+/// year.
 fn days_before_year(year: u16) -> u32 {
     let years = u32::from(year - FIRST_YEAR);
     365 * years + years.div_ceil(4) - years.div_ceil(100) + years.div_ceil(400)
 }
 
-/// Answers the days of a year before its month; month 13 is the next year's first.
+/// Returns the days of a year before a month; month 13 is the first of the next year.
 fn days_before_month(year: u16, month: u8) -> u32 {
     let leap_day = u32::from(month > 2 && is_leap(year));
     BEFORE[usize::from(month - 1)] + leap_day
 }
 
-/// Answers the days of a month.
+/// Returns the days of a month.
 fn days_of_month(year: u16, month: u8) -> u32 {
     days_before_month(year, month + 1) - days_before_month(year, month)
 }
 
-/// Answers the number of at most four decimal digits.
+/// Returns the number that at most four decimal digits give.
 fn number_of(digits: &[u8]) -> Option<u16> {
     digits.iter().try_fold(0, |number, digit| match digit {
         b'0'..=b'9' => Some(10 * number + u16::from(digit - b'0')),
@@ -176,7 +187,7 @@ fn number_of(digits: &[u8]) -> Option<u16> {
 }
 
 impl Utc {
-    /// Answers what is wrong with the date and the time, if anything is.
+    /// Checks the date and the time.
     fn check(self) -> Result<(), NoInstant> {
         let Utc {
             year, month, day, ..
@@ -193,9 +204,9 @@ impl Utc {
         Ok(())
     }
 
-    /// Answers the date of a day from 2000-01-01 on, at midnight.
+    /// Returns the date of a day, counted from 2000-01-01, at midnight.
     fn of_day(day: u32) -> Utc {
-        // 365 days a year are too few by a day in four years, so that the year may be one too late
+        // most years have 365 days and some have 366, so the year may be one too late
         let years = (day / 365) as u16;
         let late = days_before_year(FIRST_YEAR + years) > day;
         let year = FIRST_YEAR + years - u16::from(late);
@@ -213,7 +224,7 @@ impl Utc {
         }
     }
 
-    /// Answers the date and time that a text writes, whether there is such a one or not.
+    /// Returns the date and time that a text gives, without checking them.
     fn read(text: &str) -> Option<Utc> {
         let text: &[u8; 20] = text.as_bytes().try_into().ok()?;
         let marks = [4, 7, 10, 13, 16, 19].map(|place| text[place]);
@@ -233,7 +244,11 @@ impl Utc {
 impl TryFrom<Utc> for Instant {
     type Error = NoInstant;
 
-    /// Answers the instant of a date and time.
+    /// Returns the instant of a date and time.
+    ///
+    /// # Errors
+    ///
+    /// Returns what is wrong with the date or the time.
     fn try_from(utc: Utc) -> Result<Instant, NoInstant> {
         utc.check()?;
         let before = days_before_year(utc.year) + days_before_month(utc.year, utc.month);
@@ -245,7 +260,7 @@ impl TryFrom<Utc> for Instant {
 }
 
 impl From<Instant> for Utc {
-    /// Answers the date and time of an instant.
+    /// Returns the date and time of an instant.
     fn from(instant: Instant) -> Utc {
         let seconds = instant.0 % DAY;
         Utc {
@@ -260,7 +275,11 @@ impl From<Instant> for Utc {
 impl TryFrom<SystemTime> for Instant {
     type Error = NoInstant;
 
-    /// Answers the instant of a system time, whose parts of a second are dropped.
+    /// Returns the instant of a system time, rounded down to whole seconds.
+    ///
+    /// # Errors
+    ///
+    /// Returns [`NoInstant::Early`] or [`NoInstant::Late`].
     fn try_from(time: SystemTime) -> Result<Instant, NoInstant> {
         let since = time.duration_since(UNIX_EPOCH + SINCE_1970);
         Instant::counted(since.map_err(|_| NoInstant::Early)?.as_secs())
@@ -268,7 +287,7 @@ impl TryFrom<SystemTime> for Instant {
 }
 
 impl From<Instant> for SystemTime {
-    /// Answers the system time of an instant.
+    /// Returns the system time of an instant.
     fn from(instant: Instant) -> SystemTime {
         UNIX_EPOCH + SINCE_1970 + Duration::from_secs(instant.0.into())
     }
@@ -277,21 +296,25 @@ impl From<Instant> for SystemTime {
 impl FromStr for Instant {
     type Err = NoInstant;
 
-    /// Answers the instant that a text of the form 2026-11-15T22:54:43Z writes.
+    /// Returns the instant of a text such as 2026-11-15T22:54:43Z.
+    ///
+    /// # Errors
+    ///
+    /// Returns what is wrong with the text, the date or the time.
     fn from_str(text: &str) -> Result<Instant, NoInstant> {
         Utc::read(text).ok_or(NoInstant::Form)?.try_into()
     }
 }
 
 impl fmt::Display for Instant {
-    /// Writes the date and time, as 2026-11-15T22:54:43Z.
+    /// Writes the date and time in the form 2026-11-15T22:54:43Z.
     fn fmt(&self, f: &mut fmt::Formatter<'_>) -> fmt::Result {
         Utc::from(*self).fmt(f)
     }
 }
 
 impl fmt::Display for Utc {
-    /// Writes the date and time, as 2026-11-15T22:54:43Z.
+    /// Writes the date and time in the form 2026-11-15T22:54:43Z.
     fn fmt(&self, f: &mut fmt::Formatter<'_>) -> fmt::Result {
         let Utc {
             year,
@@ -309,7 +332,7 @@ impl fmt::Display for Utc {
 }
 
 impl fmt::Display for NoInstant {
-    /// Writes what is wrong.
+    /// Writes the error as a sentence.
     fn fmt(&self, f: &mut fmt::Formatter<'_>) -> fmt::Result {
         f.pad(match self {
             NoInstant::Form => "the text is not of the form 2026-11-15T22:54:43Z",

@@ -1,20 +1,22 @@
-//! The time slices of one aeronautical feature, kept in tables of bytes that the caller lends, by the AIXM
-//! Temporality Model 1.0: slices arrive, any instant can be asked about, and baselines are derived.
+//! The time slices of one aeronautical feature, by the AIXM Temporality Model 1.0.
 //!
-//! This crate calls the proved library of the same name. What a call answers, and each byte that it writes,
-//! is proved for every table, slice and instant; nothing is asked of the caller. A refused call changes no
-//! byte. The library keeps no pointer, allocates nothing and has no state of its own, so that it can be
-//! called from many threads at once.
+//! A feature has two tables, which are buffers of bytes: the permanent table holds its BASELINEs and
+//! PERMDELTAs, the temporary table its TEMPDELTAs. [`arrive`] delivers a slice to a table.
+//! [`permanent_state`], [`snapshot`] and [`property`](property()) ask about an instant. [`derive`](derive())
+//! and [`listing`] derive baselines. The file `docs/FORMAT.md` of the repository describes the bytes.
 //!
-//! A feature has two tables: the permanent one holds its BASELINEs and PERMDELTAs, the temporary one its
-//! TEMPDELTAs. A slice in delivery is 240 bytes, the feature's identifier and a record. The specification
-//! has the layouts; all numbers are big-endian.
+//! This crate calls the proved library of the same name. For every table, slice and instant it is proved
+//! what a call returns and which bytes it writes. A refused call returns a [`Refusal`] and changes no byte.
+//! The calls allocate no memory, except [`listing_string`], and keep no state, so they can run in several
+//! threads at once.
+//!
+//! # Examples
 //!
 //! ```
 //! use timeslices::{arrive, new_table, property, table_bytes};
 //! use timeslices::{Arrival, Feature, Instant, Mention, Side, SLICE_BYTES};
 //!
-//! /// Makes a slice of sequence number 1 that says one thing: property 0 is a code.
+//! /// Returns a slice with sequence number 1 that mentions one property: property 0 is a code.
 //! fn slice(feature: &Feature, kind: u8, begin: Instant, code: u16) -> [u8; SLICE_BYTES] {
 //!     let mut slice = [0; SLICE_BYTES];
 //!     slice[..16].copy_from_slice(feature);
@@ -34,7 +36,7 @@
 //!     new_table(&mut permanent, Side::Permanent, &feature)?;
 //!     new_table(&mut temporary, Side::Temporary, &feature)?;
 //!
-//!     // A PERMDELTA opens the feature's life: its life begins at its instant.
+//!     // An opening PERMDELTA: the feature's life begins at its instant.
 //!     let opened: Instant = "2026-11-15T06:00:00Z".parse()?;
 //!     let mut opening = slice(&feature, 2, opened, 1);
 //!     opening[32..36].copy_from_slice(&opened.to_be_bytes());
@@ -76,31 +78,33 @@ pub use calls::{
 pub use instant::{Instant, NoInstant, Utc, NONE};
 pub use refusal::{NoRefusal, Refusal};
 
-/// The identifier of a feature, a UUID; any 16 bytes are taken.
+/// The identifier of a feature: a UUID. Any 16 bytes are accepted.
 pub type Feature = [u8; 16];
 
-/// The bytes of a table's header.
+/// The length of a table's header, in bytes.
 pub const HEADER_BYTES: usize = 32;
 
-/// The bytes of a record, also of one that a state or a snapshot is written into.
+/// The length of a record, in bytes. States and snapshots are records too.
 pub const RECORD_BYTES: usize = 224;
 
-/// The bytes of a slice in delivery: the feature's identifier, then a record.
+/// The length of a slice in delivery, in bytes: the feature's identifier, then a record.
 pub const SLICE_BYTES: usize = 16 + RECORD_BYTES;
 
-/// The bytes of a property.
+/// The length of a property, in bytes.
 pub const PROPERTY_BYTES: usize = 24;
 
-/// The most records that a table has room for.
+/// The largest number of records that a table has room for.
 pub const MOST_RECORDS: usize = 256;
 
-/// The bytes of a table with room for the most records, which hold every result of [`derive()`].
+/// The length of a table with room for [`MOST_RECORDS`], in bytes. It holds every result of [`derive()`].
 pub const LARGEST_TABLE: usize = table_bytes(MOST_RECORDS);
 
-/// The bytes that hold every listing.
+/// A length that holds every listing, in bytes.
 pub const LISTING_BYTES: usize = 10_771;
 
-/// Answers the bytes of a table with room for so many records, or for the most that there can be.
+/// Returns the length of a table with room for this many records, but for [`MOST_RECORDS`] at most.
+///
+/// # Examples
 ///
 /// ```
 /// use timeslices::{table_bytes, LARGEST_TABLE};

@@ -1,13 +1,13 @@
 //! The C interface, as include/timeslices.h declares it.
 
-/// An answer: kind 0 is a refusal with its number, every other kind is the call's own.
+/// An answer: kind 0 is a refusal with its number, other kinds depend on the call.
 #[repr(C)]
 pub struct Answer {
     pub kind: u32,
     pub number: u32,
 }
 
-/// The answer to a property question: which table, and where in it.
+/// The answer of `tsl_property`: which table, and where in it.
 #[repr(C)]
 pub struct Part {
     pub kind: u32,

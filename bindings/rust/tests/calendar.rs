@@ -1,14 +1,14 @@
-//! Instants and the calendar, held against days that are counted one by one.
+//! Tests instants and the calendar against days that are counted one by one.
 
 use std::time::{Duration, SystemTime, UNIX_EPOCH};
 use timeslices::{Instant, NoInstant, Utc, NONE};
 
-/// The seconds that are looked at on every day: edges of a minute, an hour and the day.
+/// The seconds that are tested on every day: the limits of a minute, an hour and the day.
 const SECONDS: [u32; 12] = [
     0, 1, 59, 60, 61, 3_599, 3_600, 43_199, 43_200, 86_339, 86_340, 86_399,
 ];
 
-/// Texts that are worked out elsewhere, by their day and second: the first two days are AIRAC dates.
+/// Texts worked out by other means, with their day and second. The first two days are AIRAC dates.
 const TEXTS: [(u32, u32, &str); 6] = [
     (26, 0, "2000-01-27T00:00:00Z"),
     (7_670, 0, "2020-12-31T00:00:00Z"),
@@ -18,7 +18,7 @@ const TEXTS: [(u32, u32, &str); 6] = [
     (49_710, 23_294, "2136-02-07T06:28:14Z"),
 ];
 
-/// Dates and times that are no instants.
+/// Dates and times that are not instants.
 const WRONG: [(&str, NoInstant); 16] = [
     ("1900-02-29T00:00:00Z", NoInstant::Date),
     ("2001-02-29T00:00:00Z", NoInstant::Date),
@@ -41,18 +41,18 @@ const WRONG: [(&str, NoInstant); 16] = [
 /// A year, a month and a day.
 type Date = (u16, u8, u8);
 
-/// Answers the last day of a month in the years that have instants.
+/// Returns the last day of a month in the years that have instants.
 fn last_day(year: u16, month: u8) -> u8 {
     match month {
         4 | 6 | 9 | 11 => 30,
-        // of these years 2100 alone is divisible by 4 and no leap year
+        // of these years only 2100 is divisible by 4 but not a leap year
         2 if year % 4 == 0 && year != 2100 => 29,
         2 => 28,
         _ => 31,
     }
 }
 
-/// Answers the day after a date.
+/// Returns the day after a date.
 fn next((year, month, day): Date) -> Date {
     if day < last_day(year, month) {
         (year, month, day + 1)
@@ -63,13 +63,13 @@ fn next((year, month, day): Date) -> Date {
     }
 }
 
-/// Answers each day that has an instant, with the number of days before it.
+/// Returns each day that has an instant, with the number of days before it.
 fn days() -> impl Iterator<Item = (u32, Date)> {
     let dates = std::iter::successors(Some((2000, 1, 1)), |date| Some(next(*date)));
     (0..=49_710).zip(dates)
 }
 
-/// Answers a date at a second of the day.
+/// Returns a date at a second of the day.
 fn at((year, month, day): Date, second: u32) -> Utc {
     Utc {
         year,
@@ -81,12 +81,12 @@ fn at((year, month, day): Date, second: u32) -> Utc {
     }
 }
 
-/// Answers the instant of a number of seconds.
+/// Returns the instant of a number of seconds.
 fn instant(seconds: u32) -> Instant {
     Instant::new(seconds).expect("not none")
 }
 
-/// Holds a number of seconds against a date and time, both ways, in figures and as text.
+/// Compares a number of seconds with a date and time, both ways, as numbers and as text.
 fn hold(seconds: u32, utc: Utc) {
     let instant = instant(seconds);
     assert_eq!(Utc::from(instant), utc);
@@ -95,7 +95,7 @@ fn hold(seconds: u32, utc: Utc) {
     assert_eq!(instant.to_string().parse(), Ok(instant));
 }
 
-/// Every day from the first to the last, at the edges within it.
+/// Every day from the first to the last.
 #[test]
 fn every_day() {
     for (day, date) in days() {
@@ -120,7 +120,7 @@ fn every_second() {
     }
 }
 
-/// Each month of each year ends where it ends, and there is no other month.
+/// Every month has its own last day, and there are twelve months.
 #[test]
 fn there_is_no_such_date() {
     let wrong = |date| Instant::try_from(at(date, 0)).err();
@@ -141,7 +141,7 @@ fn there_is_no_such_date() {
     assert_eq!(Instant::try_from(latest), Err(NoInstant::Date));
 }
 
-/// Texts of instants, and of what is none.
+/// Texts of instants, and texts that are not instants.
 #[test]
 fn texts() {
     for (day, second, text) in TEXTS {
@@ -154,7 +154,7 @@ fn texts() {
     }
 }
 
-/// A text is of the one form, to the byte.
+/// Texts that differ from the form by one byte.
 #[test]
 fn texts_of_another_form() {
     let sound = "2026-11-15T22:54:43Z";
@@ -172,7 +172,7 @@ fn texts_of_another_form() {
     }
 }
 
-/// The system's clock: 2000 began 946,684,800 seconds after 1970.
+/// System times: 2000 began 946,684,800 seconds after 1970.
 #[test]
 fn system_times() {
     let after = |seconds: u64| UNIX_EPOCH + Duration::from_secs(946_684_800 + seconds);

@@ -1,12 +1,12 @@
-//! The example of the cancelled runway change tells what night.txt says.
+//! Compares what the example prints with night.txt.
 
 #[allow(dead_code, reason = "its main prints what the test compares")]
 #[path = "../examples/night.rs"]
 mod night;
 
-/// The text is the one worked out from the specification.
+/// The text was worked out from the specification.
 #[test]
-fn the_night_is_told_as_it_is_written_down() {
-    let told = night::night().expect("nothing is refused");
-    assert_eq!(told, include_str!("../examples/night.txt"));
+fn the_example_prints_night_txt() {
+    let printed = night::night().expect("nothing is refused");
+    assert_eq!(printed, include_str!("../examples/night.txt"));
 }

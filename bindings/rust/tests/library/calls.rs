@@ -1,4 +1,4 @@
-//! What the calls write and answer where nothing is refused.
+//! What the calls write and return when nothing is refused.
 
 use crate::slices::*;
 use std::thread;
@@ -8,7 +8,7 @@ use timeslices::{
     LARGEST_TABLE, LISTING_BYTES, MOST_RECORDS, NONE, PROPERTY_BYTES, RECORD_BYTES, SLICE_BYTES,
 };
 
-/// The sizes are the specification's.
+/// The sizes are those of the specification.
 #[test]
 fn sizes() {
     assert_eq!(
@@ -25,7 +25,7 @@ fn sizes() {
     );
 }
 
-/// A new table is its header; the bytes behind it are kept.
+/// Creating a table writes its header; the bytes after it are kept.
 #[test]
 fn a_new_table() {
     for (side, byte) in [(Side::Permanent, 0), (Side::Temporary, 1)] {
@@ -37,7 +37,8 @@ fn a_new_table() {
     }
 }
 
-/// Records stand by kind, then sequence number, in whatever order they came; the bytes behind are kept.
+/// Records are sorted by kind, then sequence number, in whatever order they arrive; the bytes after them
+/// are kept.
 #[test]
 fn arrivals() {
     let slices = [p(2, 150, 2), base(), p(1, 150, 3)];
@@ -48,7 +49,7 @@ fn arrivals() {
     assert_eq!(table[704..], [FILL; 224]);
 }
 
-/// A cancelled record stays: a lower correction does not bring the change back, a higher one does.
+/// A cancelled record stays: a lower correction does not bring the change back, but a higher one does.
 #[test]
 fn corrections() {
     let mut table = Tables::of(&[p(1, 150, 2)]).permanent;
@@ -98,7 +99,7 @@ fn written_records() {
     assert_eq!(record[..], expected);
 }
 
-/// The state goes on to the last instant that there is.
+/// There is a state up to the last instant.
 #[test]
 fn the_last_instant() {
     let tables = Tables::of(&[base(), p(2, NONE - 1, 2)]);
@@ -109,13 +110,13 @@ fn the_last_instant() {
     assert_eq!(codes, [Some(2), Some(1)]);
 }
 
-/// The bytes of a property stand in the record that mentioned it last: they are not a copy.
+/// The bytes of a property are borrowed from the record that mentioned it last: they are not a copy.
 #[test]
 fn a_property_is_a_part_of_its_table() {
     let tables = Tables::of(&[base(), p(1, 110, 2), t(1, 120, 140, 5), t(2, 130, 160, 6)]);
     let asked =
         |instant, number| property(&tables.permanent, &tables.temporary, at(instant), number);
-    // the second record's property 0, and property 7 of the first one, behind 32 bytes each
+    // where property 0 of the second record begins
     let second = 32 + 224 + 32;
     let places = [
         (100, 0, 64),
@@ -137,7 +138,7 @@ fn a_property_is_a_part_of_its_table() {
     }
 }
 
-/// The specification's listing, every byte of its derived table, and what is kept behind them.
+/// The listing of the specification, every byte of its derived table, and the bytes after them.
 #[test]
 fn derived_baselines() {
     let nil = (0..8).fold(base(), |slice, part| {
@@ -164,7 +165,7 @@ fn derived_baselines() {
     assert_eq!(listing(&table, &mut place[..text.len()]), Ok(text));
 }
 
-/// A listing that does not fit its place says what it needs, and is not begun.
+/// A listing that does not fit returns the length that it needs, and writes nothing.
 #[test]
 fn a_listing_that_does_not_fit() {
     let table = Tables::of(&[]).permanent;
@@ -176,7 +177,19 @@ fn a_listing_that_does_not_fit() {
     assert_eq!(listing(&table, &mut [0; 10]), Ok("derived 0\n"));
 }
 
-/// The longest listing there is: 256 records, and times of ten digits.
+/// A table of any length is listed; the bytes after its last record are ignored.
+#[test]
+fn a_listing_of_a_long_table() {
+    let mut table = vec![FILL; LARGEST_TABLE + 1000];
+    assert_eq!(new_table(&mut table, Side::Permanent, &FEATURE), Ok(()));
+    assert_eq!(arrive(&mut table, &base()), Ok(Arrival::Added));
+    let text = "derived 1\n1 100 - 21111111\n";
+    for length in [LARGEST_TABLE, LARGEST_TABLE + 1, LARGEST_TABLE + 1000] {
+        assert_eq!(listing_string(&table[..length]), text);
+    }
+}
+
+/// A long listing: 256 records, and times of ten digits.
 #[test]
 fn the_longest_listing() {
     let mut table = empty(Side::Permanent, MOST_RECORDS);
@@ -201,7 +214,7 @@ fn the_longest_listing() {
     assert_eq!(listing_string(&table), expected);
 }
 
-/// The samples are listed as the repository says.
+/// The listings of the samples.
 #[test]
 fn samples() {
     let samples = [
@@ -223,7 +236,7 @@ fn samples() {
     }
 }
 
-/// Many threads ask of the same tables and file into their own, each with the stack that is documented.
+/// Many threads read the same tables and write to their own, with little more stack than documented.
 #[test]
 fn threads() {
     let tables = &Tables::of(&[base(), p(1, 150, 2), t(1, 120, 140, 5)]);

@@ -1,9 +1,9 @@
-//! The fourteen examples of the specification, as it states them.
+//! The fourteen examples of the specification.
 
 use crate::slices::*;
 use timeslices::{property, snapshot, Arrival, Mention, Refusal, NONE, RECORD_BYTES};
 
-/// What an example says of a property at an instant.
+/// What an example expects of a property at an instant.
 #[derive(Clone, Copy, Debug, PartialEq)]
 enum Said {
     Code(u8),
@@ -14,15 +14,15 @@ enum Said {
 
 use Said::{Code, NilUnknown, Refused, Unmentioned};
 
-/// An example: the slices in the order in which they come, what becomes of the last one where it is said (or
-/// else all are accepted), and what is said of a property (the second number) at an instant (the first).
+/// An example: the slices in the order of arrival; the answer to the last one, or `None` if all are accepted;
+/// and instants and properties with what is expected of them.
 struct Example {
     slices: Vec<Slice>,
     last: Option<Result<Arrival, Refusal>>,
     said: Vec<(u32, u8, Said)>,
 }
 
-/// Makes an example that speaks of property 0.
+/// Makes an example about property 0.
 fn says(slices: &[Slice], said: &[(u32, Said)]) -> Example {
     Example {
         slices: slices.to_vec(),
@@ -34,7 +34,7 @@ fn says(slices: &[Slice], said: &[(u32, Said)]) -> Example {
     }
 }
 
-/// Makes an example that speaks of what becomes of its last slice.
+/// Makes an example about the answer to its last slice.
 fn becomes(slices: &[Slice], last: Result<Arrival, Refusal>) -> Example {
     Example {
         last: Some(last),
@@ -42,7 +42,7 @@ fn becomes(slices: &[Slice], last: Result<Arrival, Refusal>) -> Example {
     }
 }
 
-/// Answers examples 1 to 7.
+/// Returns examples 1 to 7.
 fn first_seven() -> Vec<Example> {
     let none = Refused(Refusal::NoState);
     let six = [base(), t(1, 120, 140, 5), t(2, 130, 160, 6)];
@@ -72,7 +72,7 @@ fn first_seven() -> Vec<Example> {
     ]
 }
 
-/// Answers examples 8 to 14; the ninth is two.
+/// Returns examples 8 to 14; example 9 is two of them.
 fn last_seven() -> Vec<Example> {
     let (passing, other) = (t(1, 120, 140, 5), t(1, 120, 140, 9));
     let opening = timed(p(1, 100, 3), LIFE_BEGIN, 100);
@@ -97,7 +97,7 @@ fn last_seven() -> Vec<Example> {
     ]
 }
 
-/// Answers what the library says of a property at an instant; the snapshot must agree.
+/// Returns what the library says of a property at an instant; the snapshot must agree.
 fn asked(tables: &Tables, instant: u32, number: u8) -> Said {
     let mut record = [FILL; RECORD_BYTES];
     let written = snapshot(
@@ -125,7 +125,7 @@ fn asked(tables: &Tables, instant: u32, number: u8) -> Said {
     }
 }
 
-/// Each example comes out as the specification says.
+/// The library gives what each example expects.
 #[test]
 fn the_fourteen_examples() {
     let examples: Vec<Example> = first_seven().into_iter().chain(last_seven()).collect();

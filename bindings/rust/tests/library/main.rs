@@ -1,4 +1,4 @@
-//! The library through the safe calls, held against the specification.
+//! Tests the library through the safe calls, against the specification.
 
 mod calls;
 mod examples;

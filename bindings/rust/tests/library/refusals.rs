@@ -1,49 +1,48 @@
-//! Every refusal that can come up, through each call that gives it; none changes a byte.
+//! Every refusal that can occur, through each call that gives it; none changes a byte.
 
 use crate::slices::*;
 use timeslices::{
-    arrive, derive, listing_string, new_table, permanent_state, property, snapshot, Refusal, Side,
-    LARGEST_TABLE, NONE, RECORD_BYTES,
+    arrive, derive, listing, listing_string, new_table, permanent_state, property, snapshot,
+    ListingNeeds, Refusal, Side, LARGEST_TABLE, NONE, RECORD_BYTES,
 };
 
-/// Answers the number of a refusal, 0 where nothing is refused.
+/// Returns the number of a refusal, or 0 if nothing is refused.
 fn number<T>(answer: Result<T, Refusal>) -> u32 {
     answer.err().map_or(0, Refusal::number)
 }
 
-/// Makes a call that is lent bytes, which it must leave as they are where it refuses, and answers the
-/// number.
-fn lent<T>(bytes: &[u8], call: impl FnOnce(&mut [u8]) -> Result<T, Refusal>) -> u32 {
+/// Makes a call with a buffer, which must stay the same if the call is refused, and returns the number.
+fn unchanged<T>(bytes: &[u8], call: impl FnOnce(&mut [u8]) -> Result<T, Refusal>) -> u32 {
     let mut after = bytes.to_vec();
     let number = number(call(&mut after));
     assert!(number == 0 || after == bytes, "{number} changed a byte");
     number
 }
 
-/// Answers the number of an arrival.
+/// Returns the number of an arrival.
 fn arrival(table: &[u8], slice: &[u8]) -> u32 {
-    lent(table, |table| arrive(table, slice))
+    unchanged(table, |table| arrive(table, slice))
 }
 
-/// Answers the numbers of the permanent state, the snapshot and a property at an instant, with a record of
+/// Returns the numbers of the permanent state, the snapshot and a property at an instant, with a record of
 /// a length.
 fn asked(tables: &Tables, instant: u32, length: usize, asked: u8) -> [u32; 3] {
     let (permanent, temporary, instant) = (&tables.permanent, &tables.temporary, at(instant));
     let record = vec![FILL; length];
     [
-        lent(&record, |record| {
+        unchanged(&record, |record| {
             permanent_state(permanent, instant, record)
         }),
-        lent(&record, |record| {
+        unchanged(&record, |record| {
             snapshot(permanent, temporary, instant, record)
         }),
         number(property(permanent, temporary, instant, asked)),
     ]
 }
 
-/// Answers the number of derived baselines, into an output of a length.
+/// Returns the number of a derivation into an output of a length.
 fn derived(permanent: &[u8], length: usize) -> u32 {
-    lent(&vec![FILL; length], |output| derive(permanent, output))
+    unchanged(&vec![FILL; length], |output| derive(permanent, output))
 }
 
 /// Makes tables that hold some records of each side.
@@ -51,7 +50,7 @@ fn filled() -> Tables {
     Tables::of(&[base(), p(1, 150, 2), t(1, 120, 140, 5), t(2, 130, 160, 6)])
 }
 
-/// Makes wrong tables of a sound one, each with the number that it is refused with.
+/// Returns faulty copies of a sound table, each with the number that it is refused with.
 fn faults(sound: &[u8]) -> Vec<(u32, Vec<u8>)> {
     let set = |place: usize, bytes: &[u8]| {
         let mut table = sound.to_vec();
@@ -71,7 +70,7 @@ fn faults(sound: &[u8]) -> Vec<(u32, Vec<u8>)> {
     faults
 }
 
-/// 1 to 7 of the permanent table, by each call that reads one, whatever else is wrong.
+/// 1 to 7 of the permanent table, by every call that reads one, whatever else is wrong.
 #[test]
 fn a_wrong_permanent_table() {
     let Tables {
@@ -122,20 +121,20 @@ fn a_wrong_temporary_table() {
     assert_eq!(asked(&twice, 125, RECORD_BYTES, 0), [0, 2, 2]);
 }
 
-/// 1 of a new table; its side is one of two by its type.
+/// 1 of a new table; the type allows no wrong side.
 #[test]
 fn no_place_for_a_new_table() {
     for side in [Side::Permanent, Side::Temporary] {
         for length in [0, 1, 31] {
             assert_eq!(
-                lent(&vec![FILL; length], |table| new_table(
+                unchanged(&vec![FILL; length], |table| new_table(
                     table, side, &FEATURE
                 )),
                 1
             );
         }
         assert_eq!(
-            lent(&[FILL; 32], |table| new_table(table, side, &FEATURE)),
+            unchanged(&[FILL; 32], |table| new_table(table, side, &FEATURE)),
             0
         );
     }
@@ -298,7 +297,7 @@ fn baselines_that_cannot_be_derived() {
     assert_eq!(derived(&one, 480), 0);
 }
 
-/// 23 where there are too many: a life that opens at 10, and BASELINEs with gaps between, each of which
+/// 23 if there are too many: an opening PERMDELTA at 10, and BASELINEs with gaps between them, each of which
 /// changes the state at its begin and at its end.
 #[test]
 fn more_baselines_than_a_table_holds() {
@@ -318,4 +317,86 @@ fn more_baselines_than_a_table_holds() {
     assert_eq!(derived(&table, LARGEST_TABLE), 23);
     assert_eq!(derived(&table, LARGEST_TABLE + 1000), 23);
     assert_eq!(listing_string(&table), "refused 23\n");
+}
+
+/// Empty buffers are refused by their length, like any other.
+#[test]
+fn empty_buffers() {
+    let tables = filled();
+    assert_eq!(number(new_table(&mut [], Side::Permanent, &FEATURE)), 1);
+    assert_eq!(number(arrive(&mut [], &[])), 1);
+    assert_eq!(arrival(&tables.permanent, &[]), 9);
+    let none = Tables {
+        permanent: vec![],
+        temporary: vec![],
+    };
+    assert_eq!(asked(&none, 125, 0, 0), [1; 3]);
+    assert_eq!(asked(&tables, 125, 0, 0), [23, 23, 0]);
+    assert_eq!(number(derive(&[], &mut [])), 1);
+    assert_eq!(number(derive(&tables.permanent, &mut [])), 23);
+    assert_eq!(listing(&[], &mut []), Err(ListingNeeds(10)));
+    assert_eq!(listing_string(&[]), "refused 1\n");
+}
+
+/// Returns a new table that the records of another one are delivered to, with the number of each arrival.
+fn rebuilt(table: &[u8], records: usize) -> (Vec<u8>, Vec<u32>) {
+    let mut new = empty(Side::Permanent, 4);
+    let delivered = table[32..].chunks(RECORD_BYTES).take(records);
+    let numbers = delivered.map(|record| number(arrive(&mut new, &[&FEATURE, record].concat())));
+    let numbers = numbers.collect();
+    (new, numbers)
+}
+
+/// A table that is refused with 7 is rebuilt by delivering its records to a new one. Of two corrections the
+/// higher one stays; two records that claim to be the same one give 17, and the first stays.
+#[test]
+fn a_table_that_is_rebuilt() {
+    let sound = Tables::of(&[base(), p(1, 150, 2)]).permanent;
+    let of = |records: &[Slice]| {
+        let records: Vec<u8> = records
+            .iter()
+            .flat_map(|slice| slice[16..].to_vec())
+            .collect();
+        let mut table = sound.clone();
+        table[7] = (records.len() / RECORD_BYTES) as u8;
+        table[32..32 + records.len()].copy_from_slice(&records);
+        assert_eq!(derived(&table, LARGEST_TABLE), 7);
+        table
+    };
+    let swapped = of(&[p(1, 150, 2), base()]);
+    assert_eq!(rebuilt(&swapped, 2), (sound.clone(), vec![0, 0]));
+
+    let higher = corrected(p(1, 160, 3), 1);
+    for records in [
+        [base(), p(1, 150, 2), higher],
+        [base(), higher, p(1, 150, 2)],
+    ] {
+        let expected = Tables::of(&[base(), higher]).permanent;
+        assert_eq!(rebuilt(&of(&records), 3), (expected, vec![0, 0, 0]));
+    }
+
+    let twice = of(&[base(), p(1, 150, 2), p(1, 160, 3)]);
+    assert_eq!(rebuilt(&twice, 3), (sound, vec![0, 0, 17]));
+}
+
+/// 20 and 22 after the end of a life: 22 needs an anchor that holds at the instant.
+#[test]
+fn after_the_end_of_a_life() {
+    let ends = |slices: &[Slice], said: &[(u32, u32)]| {
+        let tables = Tables::of(slices);
+        for &(instant, number) in said {
+            let answer = asked(&tables, instant, RECORD_BYTES, 0);
+            assert_eq!(answer, [number; 3], "{instant}");
+        }
+    };
+    let ended = |end, life_end| timed(b(1, 100, end, 1), LIFE_END, life_end);
+    let opening = timed(p(2, 50, 3), LIFE_BEGIN, 50);
+    ends(&[ended(200, 200)], &[(199, 0), (200, 20), (900, 20)]);
+    ends(&[ended(200, 250)], &[(199, 0), (200, 20), (250, 20)]);
+    ends(&[ended(NONE, 200)], &[(199, 0), (200, 22), (900, 22)]);
+    let closed = [b(1, 100, 500, 1), closing(300)];
+    ends(&closed, &[(299, 0), (300, 22), (499, 22), (500, 20)]);
+    ends(&[opening, closing(300)], &[(299, 0), (300, 22), (900, 22)]);
+    ends(&[ended(200, 200), opening], &[(199, 0), (200, 0), (900, 0)]);
+    ends(&[base(), closing(100)], &[(100, 0), (900, 0)]);
 }

@@ -10,10 +10,10 @@ pub type Slice = [u8; SLICE_BYTES];
 /// The feature of the tests.
 pub const FEATURE: Feature = [0x5e; 16];
 
-/// What lent bytes hold before a call.
+/// What the bytes of a buffer are before a call.
 pub const FILL: u8 = 0xa5;
 
-/// Where the parts of a record begin in a slice.
+/// Where the fields of a record begin in a slice.
 pub const FLAGS: usize = 17;
 pub const CORRECTION: usize = 18;
 pub const TIMES: usize = 24;
@@ -24,23 +24,23 @@ pub const PARTS: usize = 48;
 /// The first bytes of a property: nil, missing.
 pub const MISSING: [u8; 2] = [1, 2];
 
-/// Answers an instant.
+/// Returns an instant.
 pub fn at(seconds: u32) -> Instant {
     Instant::new(seconds).expect("not none")
 }
 
-/// Answers the slice with some of its bytes set.
+/// Returns the slice with some of its bytes set.
 pub fn with(mut slice: Slice, place: usize, bytes: &[u8]) -> Slice {
     slice[place..place + bytes.len()].copy_from_slice(bytes);
     slice
 }
 
-/// Answers the slice with one of its times set.
+/// Returns the slice with one of its times set.
 pub fn timed(slice: Slice, place: usize, time: u32) -> Slice {
     with(slice, place, &time.to_be_bytes())
 }
 
-/// Makes a slice of a kind and a sequence number that gives no time and mentions nothing.
+/// Makes a slice of a kind and a sequence number without times and properties.
 pub fn blank(kind: u8, sequence: u8) -> Slice {
     let head = [kind, 0, 0, 0, 0, 0, 0, sequence];
     let slice = with([0; SLICE_BYTES], 0, &[&FEATURE[..], &head].concat());
@@ -85,17 +85,17 @@ pub fn closing(instant: u32) -> Slice {
     timed(timed(blank(2, 1), TIMES, instant), LIFE_END, instant)
 }
 
-/// Answers the slice under a correction number.
+/// Returns the slice with a correction number.
 pub fn corrected(slice: Slice, correction: u8) -> Slice {
     with(slice, CORRECTION, &[0, correction])
 }
 
-/// Makes the slice that cancels one of a kind and a sequence number, as its correction 1.
+/// Makes the cancellation of a kind and a sequence number: correction 1.
 pub fn cancelled(kind: u8, sequence: u8) -> Slice {
     corrected(with(blank(kind, sequence), FLAGS, &[1]), 1)
 }
 
-/// Makes a table without records, with room for so many.
+/// Makes an empty table with room for this many records.
 pub fn empty(side: Side, room: usize) -> Vec<u8> {
     let mut table = vec![FILL; table_bytes(room)];
     new_table(&mut table, side, &FEATURE).expect("a table of this length can be made");
@@ -110,7 +110,7 @@ pub struct Tables {
 }
 
 impl Tables {
-    /// Makes two tables with room for four records each, and has slices arrive that are all added.
+    /// Makes two tables with room for four records each, and delivers slices, which must all be added.
     pub fn of(slices: &[Slice]) -> Tables {
         let mut tables = Tables {
             permanent: empty(Side::Permanent, 4),
@@ -122,7 +122,7 @@ impl Tables {
         tables
     }
 
-    /// Has a slice arrive at the table of its kind.
+    /// Delivers a slice to the table of its kind.
     pub fn take(&mut self, slice: &Slice) -> Result<Arrival, Refusal> {
         let table = match slice[16] {
             3 => &mut self.temporary,
