@@ -5,9 +5,9 @@ mod derived;
 mod questions;
 mod scenes;
 
+use crate::layout::RECORD_BYTES;
 use crate::library::{Library, Reply, BY_STEPS, BY_SWEEPS, ON_HEAP, PLAIN};
 use crate::listing::MOST_BYTES;
-use crate::record::RECORD_BYTES;
 use crate::vectors::sample::FEATURE;
 use std::fmt;
 use std::hint::black_box;

@@ -3,12 +3,13 @@
 
 use crate::arrival;
 use crate::derived;
+use crate::layout::MOST_RECORDS;
 use crate::library::{Library, Reply};
 use crate::listing;
 use crate::play::further::{further, Judge};
 use crate::play::{round, Call, Player};
 use crate::question;
-use crate::table::{self, Sides, MOST_RECORDS};
+use crate::table::{self, Sides};
 use crate::tables::{Product, Question, Tables};
 use crate::tally::{Answer, Tally};
 use crate::vectors::format::{fill_lines, instant_line, line, output_line, record_line, EXCHANGE};

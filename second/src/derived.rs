@@ -1,10 +1,11 @@
 //! Derived baselines: from one change instant to the next, the permanent state as a BASELINE.
 
-use crate::record::{Instant, Kind, Record, Sequence, Side, Span, RECORD_BYTES};
+use crate::layout::{bytes_of, MOST_RECORDS};
+use crate::record::{Instant, Kind, Record, Sequence, Side, Span};
 use crate::refusal::{hold, Refusal};
 use crate::slice;
 use crate::state::{lasting, State};
-use crate::table::{Feature, Sides, Table, HEADER_BYTES, MOST_RECORDS};
+use crate::table::{Feature, Sides, Table};
 
 /// Writes the derived baselines of a permanent table and answers how many they are; a refused call
 /// changes no byte, and no call one beyond the result.
@@ -28,7 +29,7 @@ pub fn derive(permanent: &[u8], output: &mut [u8]) -> Result<usize, Refusal> {
 
 /// Answers whether a table of so many records is one, and has its place in so many bytes.
 fn fits(records: usize, bytes: usize) -> bool {
-    records <= MOST_RECORDS && HEADER_BYTES + records * RECORD_BYTES <= bytes
+    records <= MOST_RECORDS && bytes_of(records) <= bytes
 }
 
 /// Answers 24 where a record is not sound as a slice of the feature on its way to the permanent side.

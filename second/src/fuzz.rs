@@ -6,15 +6,14 @@ pub mod driver;
 
 use crate::compare::{Comparison, Difference};
 use crate::histories::History;
+use crate::layout::{bytes_of, PROPERTIES, PROPERTY_BYTES, RECORD_BYTES};
 use crate::library::Library;
 use crate::play::{Call, Player};
-use crate::property::{PROPERTIES, PROPERTY_BYTES};
 use crate::random::Random;
-use crate::record::{Side, NONE, RECORD_BYTES};
+use crate::record::{Side, NONE};
 use crate::supply;
 use crate::tables::{Product, Question, Tables};
 use crate::tally::Tally;
-use crate::vectors::deriving::bytes_of;
 use crate::vectors::parts::edge_part;
 use crate::vectors::sample::{FEATURE, PARTS, TIMES};
 

@@ -1,9 +1,9 @@
 //! Random small histories, each a little other than the last.
 
+use crate::layout::bytes_of;
 use crate::random::Random;
-use crate::record::{Kind, Side, NONE, RECORD_BYTES};
+use crate::record::{Kind, Side, NONE};
 use crate::supply::EDGES;
-use crate::table::HEADER_BYTES;
 use crate::tables::Tables;
 use crate::vectors::sample::{self, code, nil, sound_parts, unmentioned, Area, Case, FLAGS, KIND};
 use std::collections::BTreeMap;
@@ -35,7 +35,7 @@ pub struct History {
 impl History {
     /// Makes a history of some records.
     pub fn new(random: &mut Random) -> History {
-        let length = HEADER_BYTES + ROOM * RECORD_BYTES + random.below(3);
+        let length = bytes_of(ROOM) + random.below(3);
         let table = |side| sample::table(side, &[], length, 0);
         let mut history = History {
             begin: random.pick(&BEGINS),
@@ -219,7 +219,7 @@ impl History {
     fn write(&mut self) {
         for side in [Side::Permanent, Side::Temporary] {
             let records: Vec<Vec<u8>> = self.of(side).map(Case::record).collect();
-            let length = HEADER_BYTES + records.len() * RECORD_BYTES;
+            let length = bytes_of(records.len());
             let written = sample::table(side, &records, length, 0);
             self.tables.of_side(side)[..length].copy_from_slice(&written);
         }

@@ -1,8 +1,8 @@
 //! A library under test: its calls, however they are reached.
 
 use crate::arrival::Arrival;
+use crate::layout::PROPERTY_BYTES;
 use crate::plain;
-use crate::property::PROPERTY_BYTES;
 use crate::record::Side;
 use crate::refusal::Refusal;
 use crate::table::Feature;

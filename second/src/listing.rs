@@ -1,13 +1,14 @@
 //! The listing of a permanent table: the text of its derived baselines, a line each.
 
 use crate::derived::derive;
+use crate::layout::{bytes_of, MOST_RECORDS};
 use crate::property::Value;
-use crate::record::{Record, RECORD_BYTES};
+use crate::record::Record;
 use crate::refusal::Refusal;
-use crate::table::{Sides, Table, HEADER_BYTES, MOST_RECORDS};
+use crate::table::{Sides, Table};
 
 /// The bytes that the listing program reads at most, and derives into.
-pub const MOST_BYTES: usize = HEADER_BYTES + MOST_RECORDS * RECORD_BYTES;
+pub const MOST_BYTES: usize = bytes_of(MOST_RECORDS);
 
 /// Answers what the listing program prints for its whole input.
 pub fn program(input: &[u8]) -> String {

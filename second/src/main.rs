@@ -14,6 +14,7 @@ mod files;
 #[cfg(any(test, feature = "fuzz"))]
 mod fuzz;
 mod histories;
+mod layout;
 #[cfg(any(test, feature = "linked"))]
 mod library;
 #[cfg(feature = "linked")]

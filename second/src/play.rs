@@ -4,13 +4,13 @@
 pub mod further;
 
 use crate::histories::History;
+use crate::layout::{bytes_of, RECORD_BYTES};
 use crate::random::Random;
-use crate::record::{Side, NONE, RECORD_BYTES};
+use crate::record::{Side, NONE};
 use crate::supply;
-use crate::table::{Feature, HEADER_BYTES};
+use crate::table::Feature;
 use crate::tables::{Product, Question, Tables};
 use crate::vectors::derived::apart;
-use crate::vectors::deriving::bytes_of;
 use crate::vectors::sample::FEATURE;
 
 /// A call that may change a place: a table, for a question the record, or else the output.
@@ -97,7 +97,7 @@ impl<'a, P: Player> Round<'a, P> {
 
     /// Plays new tables in places of any length, filled with anything.
     fn creations(&mut self) -> Result<(), P::Fault> {
-        let full = HEADER_BYTES + self.most * RECORD_BYTES;
+        let full = bytes_of(self.most);
         for length in (0..40).chain([255, 256, 1000, full, full + 3000]) {
             let mut table = vec![0; length];
             self.random.fill(&mut table);
@@ -180,7 +180,7 @@ impl<'a, P: Player> Round<'a, P> {
         let room = self
             .random
             .pick(&[keys, keys / 2, keys + 1, most, most + 1]);
-        let mut table = vec![0; HEADER_BYTES + room * RECORD_BYTES + self.random.below(224)];
+        let mut table = vec![0; bytes_of(room) + self.random.below(224)];
         self.random.fill(&mut table);
         self.create(&mut table, side.byte(), &FEATURE)?;
         for slice in supply::delivery(&mut self.random, side, keys) {

@@ -1,12 +1,7 @@
 //! Properties: what the 24 bytes of one say, and the rule over the eight of a record.
 
+use crate::layout::{PROPERTIES, PROPERTY_BYTES};
 use std::fmt;
-
-/// The bytes of one property.
-pub const PROPERTY_BYTES: usize = 24;
-
-/// The properties of one record.
-pub const PROPERTIES: usize = 8;
 
 /// Why a value is nil.
 #[derive(Clone, Copy, Debug, PartialEq)]

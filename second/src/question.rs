@@ -1,10 +1,10 @@
 //! The questions about an instant: the permanent state, the snapshot, and one property.
 
-use crate::property::{PROPERTIES, PROPERTY_BYTES};
-use crate::record::{Instant, Record, Side, HEAD_BYTES, RECORD_BYTES};
+use crate::layout::{bytes_of, HEAD_BYTES, PROPERTIES, PROPERTY_BYTES, RECORD_BYTES};
+use crate::record::{Instant, Record, Side};
 use crate::refusal::{hold, Refusal};
 use crate::state::{lasting, mentions, passing, State};
-use crate::table::{Sides, Table, HEADER_BYTES};
+use crate::table::{Sides, Table};
 use std::fmt;
 
 /// A property's bytes, and where they stand in the table of a side.
@@ -96,7 +96,7 @@ impl Part {
         let value = record.properties[property].expect("a mentioned property has a value");
         Part {
             side: table.side,
-            place: HEADER_BYTES + index * RECORD_BYTES + HEAD_BYTES + property * PROPERTY_BYTES,
+            place: bytes_of(index) + HEAD_BYTES + property * PROPERTY_BYTES,
             bytes: value.write(),
         }
     }

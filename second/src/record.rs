@@ -1,12 +1,7 @@
 //! Records: the kind, the numbers and the times of one, and its properties.
 
-use crate::property::{properties, Value, PROPERTIES};
-
-/// The bytes of one record.
-pub const RECORD_BYTES: usize = 224;
-
-/// The bytes of a record before its properties.
-pub const HEAD_BYTES: usize = 32;
+use crate::layout::{HEAD_BYTES, PROPERTIES, RECORD_BYTES};
+use crate::property::{properties, Value};
 
 /// The number that stands for "none" where a time could be.
 pub const NONE: u32 = u32::MAX;

@@ -1,14 +1,9 @@
 //! The slice check: the refusals 9 to 16 on a slice in delivery.
 
-use crate::property::{find, Finding, Value, PROPERTIES};
-use crate::record::{Head, Instant, Kind, Record, Side, Span, RECORD_BYTES};
+use crate::layout::{FEATURE_BYTES, PROPERTIES, SLICE_BYTES};
+use crate::property::{find, Finding, Value};
+use crate::record::{Head, Instant, Kind, Record, Side, Span};
 use crate::refusal::{hold, Refusal};
-
-/// The bytes of a feature identifier.
-pub const FEATURE_BYTES: usize = 16;
-
-/// The bytes of a slice in delivery: the feature identifier, then a record.
-pub const SLICE_BYTES: usize = FEATURE_BYTES + RECORD_BYTES;
 
 /// Answers the first refusal that a slice meets on its way to a side of a feature, if any.
 pub fn check(slice: &[u8], feature: &[u8], side: u8) -> Result<(), Refusal> {

@@ -1,7 +1,8 @@
 //! What is known at an instant: the anchor, the records that are applied after it, one by one in
 //! their order, and what comes out of them.
 
-use crate::property::{Reason, Value, PROPERTIES};
+use crate::layout::PROPERTIES;
+use crate::property::{Reason, Value};
 use crate::record::{Correction, Head, Instant, Kind, Record, Sequence, Span};
 use crate::refusal::{hold, Refusal};
 use crate::table::Table;

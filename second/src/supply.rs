@@ -1,8 +1,8 @@
 //! Random supplies: sound slices, sound tables, deliveries of many slices, and damage to all of them.
 
+use crate::layout::{bytes_of, HEADER_BYTES, RECORD_BYTES};
 use crate::random::Random;
-use crate::record::{Kind, Side, NONE, RECORD_BYTES};
-use crate::table::HEADER_BYTES;
+use crate::record::{Kind, Side, NONE};
 use crate::vectors::sample::{self, Area, Case, FEATURE, RECORD};
 use std::collections::BTreeSet;
 
@@ -102,7 +102,7 @@ pub fn table(random: &mut Random, side: Side, count: usize, rest: usize) -> Vec<
         let correction = random.pick(&[0, 1, 2, 255, 256, 65_534, 65_535]);
         records.push(slice(random, key, correction)[RECORD..].to_vec());
     }
-    let length = HEADER_BYTES + count * RECORD_BYTES + rest;
+    let length = bytes_of(count) + rest;
     sample::table(side, &records, length, random.byte())
 }
 

@@ -1,15 +1,10 @@
 //! Tables: the header, the refusals 1 to 7, and a table's bytes read and written as a whole.
 
-use crate::record::{Key, Record, Side, RECORD_BYTES};
+use crate::layout::{FEATURE_BYTES, HEADER_BYTES, MOST_RECORDS, RECORD_BYTES};
+use crate::record::{Key, Record, Side};
 use crate::refusal::{hold, Refusal};
-use crate::slice::{check_record, FEATURE_BYTES};
+use crate::slice::check_record;
 use std::collections::BTreeMap;
-
-/// The bytes of a table before its records.
-pub const HEADER_BYTES: usize = 32;
-
-/// The most records of a table, whatever its bytes.
-pub const MOST_RECORDS: usize = 256;
 
 /// The bytes of a feature identifier.
 pub type Feature = [u8; FEATURE_BYTES];

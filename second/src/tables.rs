@@ -1,7 +1,8 @@
 //! The two tables of a feature, and the instants that matter in them.
 
-use crate::record::{Kind, Record, Side, NONE, RECORD_BYTES};
-use crate::table::{Sides, Table, HEADER_BYTES};
+use crate::layout::bytes_of;
+use crate::record::{Kind, Record, Side, NONE};
+use crate::table::{Sides, Table};
 use crate::vectors::sample::{self, Case};
 use std::collections::BTreeSet;
 
@@ -37,7 +38,7 @@ impl Tables {
                 .filter(|record| Kind::of(record[0]).map(Kind::side) == Some(side))
                 .collect();
             records.sort_by_key(|record| (record[0], record[4..8].to_vec()));
-            let length = HEADER_BYTES + records.len() * RECORD_BYTES;
+            let length = bytes_of(records.len());
             sample::table(side, &records, length, 0)
         };
         Tables {

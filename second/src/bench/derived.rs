@@ -61,7 +61,7 @@ fn case(random: &mut Random, kind: Kind, index: usize, [begin, end]: [u32; 2]) -
 mod tests {
     use super::*;
     use crate::derived::derive;
-    use crate::vectors::deriving::bytes_of;
+    use crate::layout::bytes_of;
 
     /// As many derived baselines as records, each of them from one change instant to the next.
     #[test]

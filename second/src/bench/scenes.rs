@@ -3,13 +3,13 @@
 use super::derived::{self, Shape};
 use super::questions::asked;
 use super::{Call, Scene, Use, RECORDS, TEXT};
+use crate::layout::{bytes_of, HEADER_BYTES, RECORD_BYTES};
 use crate::library::Reply;
 use crate::listing::list;
 use crate::question::property;
 use crate::random::Random;
-use crate::record::{Kind, Side, RECORD_BYTES};
+use crate::record::{Kind, Side};
 use crate::supply;
-use crate::table::HEADER_BYTES;
 use crate::vectors::sample::{cases, table_of, FEATURE, RECORD};
 
 /// What the records of a table are like.
@@ -98,7 +98,7 @@ fn full_table(make: Make, count: usize, seed: u64) -> Vec<u8> {
 
 /// Answers the slice of a table's record, under the correction 1.
 fn slice(table: &[u8], index: usize) -> Vec<u8> {
-    let start = HEADER_BYTES + index * RECORD_BYTES;
+    let start = bytes_of(index);
     let mut slice = [&FEATURE, &table[start..start + RECORD_BYTES]].concat();
     slice[RECORD + 2..RECORD + 4].copy_from_slice(&[0, 1]);
     slice
@@ -106,7 +106,7 @@ fn slice(table: &[u8], index: usize) -> Vec<u8> {
 
 /// Answers a table with another correction number in one of its records.
 fn corrected(mut table: Vec<u8>, index: usize, correction: u16) -> Vec<u8> {
-    let place = HEADER_BYTES + index * RECORD_BYTES + 2;
+    let place = bytes_of(index) + 2;
     table[place..place + 2].copy_from_slice(&correction.to_be_bytes());
     table
 }
@@ -115,7 +115,7 @@ fn corrected(mut table: Vec<u8>, index: usize, correction: u16) -> Vec<u8> {
 fn without_first(mut table: Vec<u8>) -> Vec<u8> {
     let count = u16::from_be_bytes([table[6], table[7]]) - 1;
     table[6..8].copy_from_slice(&count.to_be_bytes());
-    table.copy_within(HEADER_BYTES + RECORD_BYTES.., HEADER_BYTES);
+    table.copy_within(bytes_of(1).., HEADER_BYTES);
     table
 }
 

@@ -4,13 +4,13 @@
 
 use super::{Asked, Player, Round};
 use crate::histories::History;
+use crate::layout::{bytes_of, RECORD_BYTES};
 use crate::random::Random;
-use crate::record::{Side, NONE, RECORD_BYTES};
+use crate::record::{Side, NONE};
 use crate::slice;
 use crate::supply;
 use crate::tables::{Product, Question, Tables};
 use crate::vectors::chance::drift;
-use crate::vectors::deriving::bytes_of;
 use crate::vectors::parts::edge_part;
 use crate::vectors::sample::{self, FEATURE, KIND, RECORD, TIMES};
 use std::collections::BTreeMap;

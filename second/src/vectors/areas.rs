@@ -2,7 +2,7 @@
 
 use super::sample::{broken_parts, choices, code, mentions, sound_parts, unmentioned, Area, Part};
 use super::Script;
-use crate::property::{PROPERTIES, PROPERTY_BYTES};
+use crate::layout::{PROPERTIES, PROPERTY_BYTES};
 use crate::random::Random;
 
 /// Adds every ask for the property rule.

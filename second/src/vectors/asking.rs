@@ -4,8 +4,9 @@ use super::format::{changes, digits, instant_line, line, record_line, table_line
 use super::format::{EXCHANGE, RECORD_BYTES, TABLE_BYTES};
 use super::sample::Case;
 use super::{refused, Script};
+use crate::layout::RECORD_BYTES as WHOLE;
 use crate::question::{permanent_state, property, snapshot, Part};
-use crate::record::{Side, RECORD_BYTES as WHOLE};
+use crate::record::Side;
 use crate::refusal::Refusal;
 use crate::tables::{Question, Tables};
 

@@ -1,7 +1,7 @@
 //! Short ways to write the slices of a history: a code in property 0, correction 0.
 
 use super::sample::{code, nil, unmentioned, Area, Case, Time};
-use crate::property::PROPERTIES;
+use crate::layout::PROPERTIES;
 use crate::record::{Kind, NONE};
 
 /// Two sequence numbers each, the lower first, beside each other and far apart.

@@ -4,7 +4,7 @@ use super::sample::{
     broken_parts, cancelled_cases, sound_cases, unmentioned, Case, Time, FLAGS, KIND, PARTS, TIMES,
 };
 use super::Script;
-use crate::property::PROPERTIES;
+use crate::layout::PROPERTIES;
 use crate::record::NONE;
 
 /// Adds every ask about cancelled slices.

@@ -5,7 +5,7 @@ use super::sample::{
     KIND, PARTS, SPARE, TIMES,
 };
 use super::Script;
-use crate::property::PROPERTIES;
+use crate::layout::PROPERTIES;
 use crate::random::Random;
 use crate::record::NONE;
 

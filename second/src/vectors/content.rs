@@ -2,7 +2,7 @@
 
 use super::sample::{broken_parts, choices, nil, sound_parts, unmentioned, Case, Part, Time};
 use super::Script;
-use crate::property::PROPERTIES;
+use crate::layout::PROPERTIES;
 use crate::record::Kind;
 
 /// Adds every ask about content.

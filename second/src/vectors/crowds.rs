@@ -3,7 +3,8 @@
 use super::brief::{baseline, cancelling, change, passing};
 use super::sample::{code, Case};
 use super::Script;
-use crate::record::{NONE, RECORD_BYTES};
+use crate::layout::RECORD_BYTES;
+use crate::record::NONE;
 use crate::tables::Tables;
 
 /// Adds every full table.

@@ -1,13 +1,13 @@
 //! Asks for derived baselines: by theme, with faults, and into outputs of every length that matters.
 
 use super::brief::{base, baseline, change, closing, opening};
-use super::deriving::bytes_of;
 use super::rules::{self, at, set};
 use super::sample::{code, Case};
 use super::themes::paper;
 use super::Script;
+use crate::layout::{bytes_of, RECORD_BYTES};
 use crate::random::Random;
-use crate::record::{Kind, Side, NONE, RECORD_BYTES};
+use crate::record::{Kind, Side, NONE};
 use crate::supply;
 use crate::tables::{Product, Tables};
 

@@ -7,9 +7,7 @@ use crate::derived::derive;
 use crate::histories::History;
 use crate::listing::list;
 use crate::random::Random;
-use crate::record::RECORD_BYTES;
 use crate::refusal::Refusal;
-use crate::table::HEADER_BYTES;
 use crate::tables::Product;
 
 impl Product {
@@ -41,11 +39,6 @@ fn listed(length: Result<usize, usize>) -> String {
         |needed| format!("needs {needed}"),
         |length| format!("text {length}"),
     )
-}
-
-/// Answers how many bytes a table of so many records has.
-pub const fn bytes_of(records: usize) -> usize {
-    HEADER_BYTES + records * RECORD_BYTES
 }
 
 impl Script {

@@ -3,8 +3,8 @@
 use super::brief::{base, baseline, cancelling, change, closing, opening, passing};
 use super::sample::{self, nil, Case};
 use super::Script;
-use crate::record::{Side, NONE, RECORD_BYTES};
-use crate::table::HEADER_BYTES;
+use crate::layout::bytes_of;
+use crate::record::{Side, NONE};
 use crate::tables::Tables;
 
 /// Slices in the order in which they come, and the instants that are asked about.
@@ -40,7 +40,7 @@ pub fn add(script: &mut Script) {
 
 /// Makes two tables without records, with room for four.
 fn empty() -> Tables {
-    let length = HEADER_BYTES + 4 * RECORD_BYTES;
+    let length = bytes_of(4);
     let table = |side| sample::table(side, &[], length, 0);
     Tables {
         permanent: table(Side::Permanent),

@@ -2,10 +2,11 @@
 
 use super::sample::{code, Case, FEATURE};
 use super::Script;
+use crate::layout::bytes_of;
 use crate::random::Random;
-use crate::record::{Kind, Side, RECORD_BYTES};
+use crate::record::{Kind, Side};
 use crate::supply::{damage, delivery, shuffle};
-use crate::table::{Sides, HEADER_BYTES};
+use crate::table::Sides;
 
 /// Adds every delivery.
 pub fn add(script: &mut Script) {
@@ -16,7 +17,7 @@ pub fn add(script: &mut Script) {
 
 /// Makes a new table with room for so many records and some bytes behind them.
 fn begin(script: &mut Script, side: Side, room: usize, fill: u8) {
-    let length = HEADER_BYTES + room * RECORD_BYTES + 17;
+    let length = bytes_of(room) + 17;
     script.ask_creation(&vec![fill; length], side.byte(), &FEATURE);
 }
 

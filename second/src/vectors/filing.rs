@@ -2,7 +2,8 @@
 
 use super::sample::{cases, choices, code, table_of, Case, FEATURE, RECORD};
 use super::Script;
-use crate::record::{Kind, Side, RECORD_BYTES};
+use crate::layout::RECORD_BYTES;
+use crate::record::{Kind, Side};
 use crate::supply::{kinds, EDGES};
 use crate::table::Sides;
 

@@ -1,10 +1,10 @@
 //! Asks for listings: by theme, with faults, and into outputs of every length that matters.
 
 use super::derived::{apart, touching};
-use super::deriving::bytes_of;
 use super::rules;
 use super::themes::paper;
 use super::Script;
+use crate::layout::bytes_of;
 use crate::listing::listing;
 use crate::tables::{Product, Tables};
 

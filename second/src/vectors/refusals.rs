@@ -3,7 +3,8 @@
 use super::rules::{self, at, set};
 use super::sample::{Case, Time};
 use super::Script;
-use crate::record::{Kind, NONE, RECORD_BYTES};
+use crate::layout::RECORD_BYTES;
+use crate::record::{Kind, NONE};
 use crate::tables::{Question, Tables};
 
 /// A question's tables, instant, record and property number.

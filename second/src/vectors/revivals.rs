@@ -3,8 +3,8 @@
 use super::brief::{base, baseline, cancelling, change, closing, opening, passing};
 use super::sample::{self, Case};
 use super::Script;
-use crate::record::{Side, NONE, RECORD_BYTES};
-use crate::table::HEADER_BYTES;
+use crate::layout::bytes_of;
+use crate::record::{Side, NONE};
 use crate::tables::Tables;
 
 /// The instants that are asked about after each arrival.
@@ -36,7 +36,7 @@ pub fn add(script: &mut Script) {
 /// Makes two tables with room for eight records, which hold these.
 fn roomy(cases: &[Case]) -> Tables {
     let mut tables = Tables::of(cases);
-    let length = HEADER_BYTES + 8 * RECORD_BYTES;
+    let length = bytes_of(8);
     tables.permanent.resize(length, 0);
     tables.temporary.resize(length, 0);
     tables
@@ -45,7 +45,7 @@ fn roomy(cases: &[Case]) -> Tables {
 /// Adds a record brought, cancelled, late, revived elsewhere and cancelled again, with a BASELINE or
 /// without.
 fn alone(script: &mut Script, case: &Case, other: &Case) {
-    let empty = |side| sample::table(side, &[], HEADER_BYTES + 8 * RECORD_BYTES, 0);
+    let empty = |side| sample::table(side, &[], bytes_of(8), 0);
     let mut tables = Tables {
         permanent: empty(Side::Permanent),
         temporary: empty(Side::Temporary),

@@ -2,8 +2,9 @@
 
 use super::sample::{cases, table_of, Case};
 use super::Script;
-use crate::record::{Kind, RECORD_BYTES};
-use crate::table::{Sides, HEADER_BYTES};
+use crate::layout::{bytes_of, HEADER_BYTES, RECORD_BYTES};
+use crate::record::Kind;
+use crate::table::Sides;
 
 /// Adds every ask about rooms.
 pub fn add(script: &mut Script) {
@@ -47,7 +48,7 @@ fn small_rooms(script: &mut Script) {
             for count in [
                 0, 1, 2, 3, 4, 5, 255, 256, 257, 258, 259, 512, 65_280, 65_535,
             ] {
-                let length = HEADER_BYTES + room * RECORD_BYTES + rest;
+                let length = bytes_of(room) + rest;
                 ask(script, &table(length, count), &[2, 5, 9]);
             }
         }
@@ -65,7 +66,7 @@ fn large_rooms(script: &mut Script) {
         (257, 0),
         (292, 96),
     ] {
-        let length = HEADER_BYTES + records * RECORD_BYTES + rest;
+        let length = bytes_of(records) + rest;
         for count in [256, 255, 254, 257, 258, 292, 293, 511, 512, 65_535, 0, 1] {
             ask(script, &table(length, count), &[2, 512, 514]);
         }
@@ -75,7 +76,7 @@ fn large_rooms(script: &mut Script) {
 /// Adds a new slice before, between and after 255 records, and to full tables.
 fn front_middle_last(script: &mut Script) {
     script.title("room: first, middle and last of many");
-    let length = HEADER_BYTES + 256 * RECORD_BYTES;
+    let length = bytes_of(256);
     for count in [255, 256, 128] {
         ask(
             script,

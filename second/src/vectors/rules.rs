@@ -2,11 +2,11 @@
 
 use super::sample::{cases, nil, table_of, unmentioned, Case, RECORD};
 use super::Script;
-use crate::property::PROPERTIES;
+use crate::layout::{bytes_of, HEADER_BYTES, PROPERTIES, RECORD_BYTES};
 use crate::random::Random;
-use crate::record::{Kind, Side, NONE, RECORD_BYTES};
+use crate::record::{Kind, Side, NONE};
 use crate::supply;
-use crate::table::{Sides, HEADER_BYTES};
+use crate::table::Sides;
 
 /// The three sets of sides that a check takes.
 const SIDES: [Sides; 3] = [Sides::Permanent, Sides::Temporary, Sides::Both];
@@ -63,7 +63,7 @@ pub const FAULTS: [Fault; 34] = [
 
 /// Answers where a record begins in a table.
 pub fn at(index: usize) -> usize {
-    HEADER_BYTES + index * RECORD_BYTES
+    bytes_of(index)
 }
 
 /// Answers the table with some bytes set.

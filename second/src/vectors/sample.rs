@@ -1,10 +1,9 @@
 //! Sound parts, sound slices, and ways to change them.
 
-use crate::property::{PROPERTIES, PROPERTY_BYTES};
-use crate::record::{Correction, Head, Kind, Sequence, Side, Span, HEAD_BYTES, NONE, RECORD_BYTES};
+use crate::layout::{bytes_of, FEATURE_BYTES, HEAD_BYTES, PROPERTIES, PROPERTY_BYTES};
+use crate::record::{Correction, Head, Kind, Sequence, Side, Span, NONE};
 use crate::refusal::number_of;
-use crate::slice::{check, FEATURE_BYTES};
-use crate::table::HEADER_BYTES;
+use crate::slice::check;
 
 /// The bytes of one property.
 pub type Part = [u8; PROPERTY_BYTES];
@@ -307,7 +306,7 @@ pub fn table_of(cases: &[Case], rest: usize, fill: u8) -> Vec<u8> {
     let side = cases.first().map_or(0, |case| case.side);
     let side = Side::of(side).expect("cases are of a side");
     let records: Vec<_> = cases.iter().map(Case::record).collect();
-    let length = HEADER_BYTES + RECORD_BYTES * records.len() + rest;
+    let length = bytes_of(records.len()) + rest;
     table(side, &records, length, fill)
 }
 

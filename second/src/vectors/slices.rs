@@ -4,8 +4,8 @@ use super::sample::{
     cancelled_cases, sound_cases, Case, FEATURE, FLAGS, KIND, PARTS, RECORD, SPARE,
 };
 use super::Script;
+use crate::layout::SLICE_BYTES;
 use crate::record::Kind;
-use crate::slice::SLICE_BYTES;
 
 /// Adds the asks that take the slice check one field at a time.
 pub fn add(script: &mut Script) {

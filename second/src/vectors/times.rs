@@ -2,7 +2,7 @@
 
 use super::sample::{unmentioned, Case};
 use super::Script;
-use crate::property::PROPERTIES;
+use crate::layout::PROPERTIES;
 use crate::record::{Kind, NONE};
 
 /// The times that the four times of a record run over.
