@@ -5,10 +5,10 @@ mod derived;
 mod questions;
 mod scenes;
 
+use crate::fixtures::FEATURE;
 use crate::layout::RECORD_BYTES;
 use crate::library::{Library, Reply, BY_STEPS, BY_SWEEPS, ON_HEAP, PLAIN};
 use crate::listing::MOST_BYTES;
-use crate::vectors::sample::FEATURE;
 use std::fmt;
 use std::hint::black_box;
 use std::time::{Duration, Instant};

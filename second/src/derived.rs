@@ -87,24 +87,19 @@ fn baselines(table: &Table) -> Result<Vec<Record>, Refusal> {
 #[cfg(test)]
 mod tests {
     use super::*;
+    use crate::fixtures::brief::{base, baseline, cancelling, change, closing, opening};
+    use crate::fixtures::rows::apart;
+    use crate::fixtures::{Case, FEATURE};
     use crate::histories::History;
     use crate::question::permanent_state;
     use crate::random::Random;
     use crate::record::NONE;
     use crate::supply::crowd;
-    use crate::tables::Tables;
-    use crate::vectors::brief::{base, baseline, cancelling, change, closing, opening};
-    use crate::vectors::derived::apart;
-    use crate::vectors::sample::{Case, FEATURE};
+    use crate::tables::{permanent, Tables};
     use std::collections::BTreeMap;
 
     /// The byte that an output is filled with before.
     const FILL: u8 = 0xa5;
-
-    /// Makes the permanent table of some cases.
-    fn permanent(cases: &[Case]) -> Vec<u8> {
-        Tables::of(cases).permanent
-    }
 
     /// Answers the head of each derived record: sequence number, four times and the code in property 0;
     /// or the number of the refusal.
@@ -265,7 +260,7 @@ mod tests {
         assert_eq!(output, [FILL; 255]);
         let mut output = vec![FILL; 65_536];
         for (count, answer) in [(255, Ok(255)), (256, Ok(256)), (257, Err(Refusal::Buffer))] {
-            assert_eq!(derive(&apart(count), &mut output), answer);
+            assert_eq!(derive(&permanent(&apart(count)), &mut output), answer);
         }
     }
 

@@ -5,6 +5,7 @@
 pub mod driver;
 
 use crate::compare::{Comparison, Difference};
+use crate::fixtures::{FEATURE, PARTS, TIMES};
 use crate::histories::History;
 use crate::layout::{bytes_of, PROPERTIES, PROPERTY_BYTES, RECORD_BYTES};
 use crate::library::Library;
@@ -14,8 +15,6 @@ use crate::record::{Side, NONE};
 use crate::supply;
 use crate::tables::{Product, Question, Tables};
 use crate::tally::Tally;
-use crate::vectors::parts::edge_part;
-use crate::vectors::sample::{FEATURE, PARTS, TIMES};
 
 /// The most records of a table that a program fills.
 const ROOM: usize = 8;
@@ -102,7 +101,7 @@ impl Program<'_> {
             }
             3 if is_whole => {
                 let place = PARTS + PROPERTY_BYTES * self.random.below(PROPERTIES);
-                let part = edge_part(&mut self.random);
+                let part = supply::edge_part(&mut self.random);
                 self.slice[place..place + PROPERTY_BYTES].copy_from_slice(&part);
             }
             _ => self.slice = supply::slice_for(&mut self.random, self.tables.of_side(side)),

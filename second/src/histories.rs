@@ -1,11 +1,12 @@
 //! Random small histories, each a little other than the last.
 
+use crate::fixtures::{self, code, nil, sound_parts, unmentioned, Area, Case, FLAGS, KIND};
 use crate::layout::bytes_of;
 use crate::random::Random;
 use crate::record::{Kind, Side, NONE};
+use crate::slice;
 use crate::supply::EDGES;
 use crate::tables::Tables;
-use crate::vectors::sample::{self, code, nil, sound_parts, unmentioned, Area, Case, FLAGS, KIND};
 use std::collections::BTreeMap;
 
 /// How many records a table of a history has room for.
@@ -36,14 +37,10 @@ impl History {
     /// Makes a history of some records.
     pub fn new(random: &mut Random) -> History {
         let length = bytes_of(ROOM) + random.below(3);
-        let table = |side| sample::table(side, &[], length, 0);
         let mut history = History {
             begin: random.pick(&BEGINS),
             records: BTreeMap::new(),
-            tables: Tables {
-                permanent: table(Side::Permanent),
-                temporary: table(Side::Temporary),
-            },
+            tables: Tables::empty(length),
         };
         for _ in 0..random.below(8) {
             history.put(random);
@@ -135,12 +132,9 @@ impl History {
             return;
         };
         let kind = Kind::of(key.0).expect("keys are of kinds");
-        let (times, case) = (self.times(random, kind), &self.records[&key]);
-        let changed = case.clone().with_times(times);
+        let times = self.times(random, kind);
         // A PERMDELTA that mentions nothing needs its life time.
-        if changed.number() == 0 {
-            self.records.insert(key, changed);
-        }
+        self.replace(key, self.records[&key].clone().with_times(times));
     }
 
     /// Gives a record other properties; a cancelled one has none and stays.
@@ -149,10 +143,13 @@ impl History {
             return;
         };
         let kind = Kind::of(key.0).expect("keys are of kinds");
-        let changed = self.records[&key]
-            .clone()
-            .with_parts(&self.parts(random, kind));
-        if changed.number() == 0 {
+        let parts = self.parts(random, kind);
+        self.replace(key, self.records[&key].clone().with_parts(&parts));
+    }
+
+    /// Puts a changed record in its own place, where it is sound.
+    fn replace(&mut self, key: (u8, u32), changed: Case) {
+        if slice::check(&changed.slice, &changed.feature, changed.side).is_ok() {
             self.records.insert(key, changed);
         }
     }
@@ -220,7 +217,7 @@ impl History {
         for side in [Side::Permanent, Side::Temporary] {
             let records: Vec<Vec<u8>> = self.of(side).map(Case::record).collect();
             let length = bytes_of(records.len());
-            let written = sample::table(side, &records, length, 0);
+            let written = fixtures::table(side, &records, length, 0);
             self.tables.of_side(side)[..length].copy_from_slice(&written);
         }
     }

@@ -73,14 +73,14 @@ fn form(property: &Option<Value>) -> char {
 #[cfg(test)]
 mod tests {
     use super::*;
+    use crate::fixtures::brief::{base, baseline, change, closing, opening};
+    use crate::fixtures::{mentions, nil, Case};
     use crate::record::{Kind, NONE};
-    use crate::tables::Tables;
-    use crate::vectors::brief::{base, baseline, change, closing, opening};
-    use crate::vectors::sample::{mentions, nil, Case};
+    use crate::tables::{permanent, Tables};
 
     /// Answers the text for the permanent table of some cases.
     fn text(cases: &[Case]) -> String {
-        program(&Tables::of(cases).permanent)
+        program(&permanent(cases))
     }
 
     /// "For BASELINE sequence 1 from 100, life begin 100, no end, all nil, and PERMDELTA sequence 1 at
@@ -114,7 +114,7 @@ mod tests {
         assert_eq!(program(&temporary), "refused 2\n");
         assert_eq!(program(&[0; 57_376]), "refused 2\n");
         assert_eq!(program(&[0; 57_377]), "too long\n");
-        let mut table = Tables::of(&[]).permanent;
+        let mut table = permanent(&[]);
         table.resize(57_376, 9);
         assert_eq!(program(&table), "derived 0\n");
         table.push(9);
@@ -125,7 +125,7 @@ mod tests {
     /// A text that fits is written from the first byte on, another is not.
     #[test]
     fn a_listing_goes_into_its_place() {
-        let table = Tables::of(&[]).permanent;
+        let table = permanent(&[]);
         let mut text = [7; 12];
         assert_eq!(list(&table, &mut text), Ok(10));
         assert_eq!(text, *b"derived 0\n\x07\x07");

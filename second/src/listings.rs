@@ -1,11 +1,11 @@
 //! Inputs of the listing program, each with the text that it prints.
 
 use crate::files::File;
+use crate::fixtures::rows::about_full;
 use crate::histories::History;
 use crate::listing::{program, MOST_BYTES};
 use crate::random::Random;
-use crate::tables::Tables;
-use crate::vectors::derived::{apart, touching};
+use crate::tables::permanent;
 use crate::vectors::rules;
 use crate::vectors::themes::{paper, themes};
 
@@ -75,7 +75,7 @@ fn faults() -> Inputs {
 
 /// Answers the paper's example cut short, and with bytes behind it.
 fn cut() -> Inputs {
-    let example = Tables::of(&paper()).permanent;
+    let example = permanent(&paper());
     let lengths = [
         0, 1, 3, 8, 31, 32, 33, 255, 256, 257, 479, 480, 481, 704, 1000,
     ];
@@ -89,7 +89,7 @@ fn cut() -> Inputs {
 
 /// Answers inputs of the most bytes that are read, and longer ones.
 fn long() -> Inputs {
-    let example = Tables::of(&paper()).permanent;
+    let example = permanent(&paper());
     let lengths = [0, 1, 2, 8160, 100_000].map(|more| MOST_BYTES + more);
     let filled = lengths.into_iter().map(|length| {
         let mut table = example.clone();
@@ -102,13 +102,7 @@ fn long() -> Inputs {
 
 /// Answers tables of about as many derived baselines as a table holds.
 fn many() -> Inputs {
-    let tables = [
-        apart(255),
-        apart(256),
-        apart(257),
-        apart(511),
-        touching(256),
-    ];
+    let tables = about_full().map(|cases| permanent(&cases));
     numbered("many", tables.into_iter())
 }
 

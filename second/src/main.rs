@@ -11,6 +11,7 @@ mod derived;
 #[cfg(test)]
 mod examples;
 mod files;
+mod fixtures;
 #[cfg(any(test, feature = "fuzz"))]
 mod fuzz;
 mod histories;

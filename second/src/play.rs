@@ -3,15 +3,15 @@
 #[cfg(any(test, feature = "linked"))]
 pub mod further;
 
+use crate::fixtures::rows::apart;
+use crate::fixtures::FEATURE;
 use crate::histories::History;
 use crate::layout::{bytes_of, RECORD_BYTES};
 use crate::random::Random;
 use crate::record::{Side, NONE};
 use crate::supply;
 use crate::table::Feature;
-use crate::tables::{Product, Question, Tables};
-use crate::vectors::derived::apart;
-use crate::vectors::sample::FEATURE;
+use crate::tables::{permanent, Product, Question, Tables};
 
 /// A call that may change a place: a table, for a question the record, or else the output.
 pub enum Call<'a> {
@@ -327,9 +327,9 @@ impl<'a, P: Player> Round<'a, P> {
     /// Plays derived baselines and listings of large histories: any one, and as many as fit or one more.
     fn many_derived(&mut self) -> Result<(), P::Fault> {
         let most = bytes_of(self.most);
-        let any = Tables::of(&supply::crowd(&mut self.random, self.most)).permanent;
+        let any = permanent(&supply::crowd(&mut self.random, self.most));
         let less = self.random.pick(&[0, 1, 2]);
-        let tables = [any, apart(self.most as u32 + 1 - less)];
+        let tables = [any, permanent(&apart(self.most as u32 + 1 - less))];
         for table in tables {
             let length = self.random.pick(&[most - 1, most, most + 224, 65_536]);
             self.output = vec![self.random.byte(); length];

@@ -1,11 +1,11 @@
 //! Sample tables: the runway of one feature, from 100 on.
 
 use crate::files::File;
+use crate::fixtures::brief::cancelling;
+use crate::fixtures::{code, length, nil, unmentioned, Area, Case, Part, Time};
 use crate::record::{Kind, NONE};
 use crate::table::Feature;
-use crate::tables::Tables;
-use crate::vectors::brief::cancelling;
-use crate::vectors::sample::{code, length, nil, unmentioned, Area, Case, Part, Time};
+use crate::tables::permanent;
 
 /// The feature of the samples.
 const FEATURE: Feature = [
@@ -33,7 +33,7 @@ pub fn files() -> Vec<File> {
 
 /// Makes the permanent table of some slices, of the samples' feature.
 fn table(cases: &[Case]) -> Vec<u8> {
-    let mut table = Tables::of(cases).permanent;
+    let mut table = permanent(cases);
     table[8..24].copy_from_slice(&FEATURE);
     table
 }

@@ -103,6 +103,8 @@ fn content_is_right(kind: Kind, mentions: usize, life: Span) -> bool {
 #[cfg(test)]
 mod tests {
     use super::*;
+    use crate::fixtures::brief::{base, cancelling, change, closing, opening, passing};
+    use crate::fixtures::{cancelled_cases, sound_cases, Case};
     use crate::refusal::number_of;
 
     const FEATURE: [u8; 16] = [7; 16];
@@ -316,5 +318,27 @@ mod tests {
         assert_eq!(times(3, [120, NONE, NONE, NONE], 0), 16);
         assert_eq!(times(2, [150, NONE, 150, NONE], 0), 0);
         assert_eq!(times(2, [150, NONE, NONE, 150], 0), 0);
+    }
+
+    /// Every fixture that is called sound is.
+    #[test]
+    fn sound_fixtures_pass() {
+        let brief = [
+            base(),
+            change(2, 150, 2),
+            opening(3, 100, 3),
+            closing(4, 300),
+            passing(5, 120, 140, 5),
+            passing(5, 120, NONE, 5),
+            cancelling(&change(2, 150, 2), 1),
+        ];
+        let cases = sound_cases()
+            .into_iter()
+            .chain(cancelled_cases())
+            .chain(Kind::ALL.map(Case::any))
+            .chain(brief);
+        for case in cases {
+            assert_eq!(check(&case.slice, &case.feature, case.side), Ok(()));
+        }
     }
 }

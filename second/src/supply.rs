@@ -1,9 +1,9 @@
 //! Random supplies: sound slices, sound tables, deliveries of many slices, and damage to all of them.
 
-use crate::layout::{bytes_of, HEADER_BYTES, RECORD_BYTES};
+use crate::fixtures::{self, Area, Case, FEATURE, FLAGS, KIND, RECORD, SPARE, TIMES};
+use crate::layout::{bytes_of, HEADER_BYTES, PROPERTIES, RECORD_BYTES};
 use crate::random::Random;
 use crate::record::{Kind, Side, NONE};
-use crate::vectors::sample::{self, Area, Case, FEATURE, RECORD};
 use std::collections::BTreeSet;
 
 /// A kind with a sequence number.
@@ -64,11 +64,11 @@ fn uncancelled(random: &mut Random, kind: Kind) -> Case {
 
 /// Makes eight sound parts, enough of them mentioned for the kind.
 pub fn parts(random: &mut Random, kind: Kind) -> Area {
-    let sound = sample::sound_parts();
-    let (mut area, sure) = (sample::mentions(), random.below(8));
+    let sound = fixtures::sound_parts();
+    let (mut area, sure) = (fixtures::mentions(), random.below(8));
     for (index, part) in area.iter_mut().enumerate() {
         if random.below(2) == 0 && kind != Kind::Baseline && index != sure {
-            *part = sample::unmentioned();
+            *part = fixtures::unmentioned();
         } else if random.below(2) == 0 {
             *part = random.pick(&sound[1..]);
         }
@@ -103,7 +103,7 @@ pub fn table(random: &mut Random, side: Side, count: usize, rest: usize) -> Vec<
         records.push(slice(random, key, correction)[RECORD..].to_vec());
     }
     let length = bytes_of(count) + rest;
-    sample::table(side, &records, length, random.byte())
+    fixtures::table(side, &records, length, random.byte())
 }
 
 /// Makes the slices of so many keys, up to three corrections each.
@@ -257,6 +257,56 @@ pub fn slice_for(random: &mut Random, table: &[u8]) -> Vec<u8> {
         }
     }
     slice
+}
+
+/// Makes a part with a double at a border or at the end of a range, sound or not.
+#[cfg(any(test, feature = "linked"))]
+pub fn edge_part(random: &mut Random) -> fixtures::Part {
+    use fixtures::doubles;
+    let (borders, edges) = (doubles::border_doubles(), doubles::edge_coordinates());
+    match random.below(3) {
+        0 => fixtures::length(random.pick(&borders), 1 + random.below(4) as u8),
+        1 => fixtures::point(random.pick(&borders), random.pick(&edges)),
+        _ => fixtures::point(random.pick(&edges), random.pick(&edges)),
+    }
+}
+
+/// Answers the case with one field changed at random, mostly to something that could be right.
+pub fn drift(case: Case, random: &mut Random) -> Case {
+    let index = random.below(PROPERTIES);
+    match random.below(24) {
+        0 => case.with_byte(KIND, random.pick(&[1, 1, 2, 2, 3, 4])),
+        1 => case.with_byte(FLAGS, random.pick(&[0, 1, 1, 2])),
+        2 => case.with_side(random.pick(&[0, 1])),
+        3 => case.with_byte(SPARE + index, random.pick(&[0, 1])),
+        4 => case.with_part(index, &random.pick(&fixtures::broken_parts())),
+        5..=12 => drift_time(case, random),
+        13 => case.with_byte(KIND + 2 + random.below(6), random.byte()),
+        14..=18 => case.with_part(index, &fixtures::unmentioned()),
+        _ => case.with_part(index, &random.pick(&fixtures::sound_parts())),
+    }
+}
+
+/// Answers the case with one of its times changed at random.
+fn drift_time(mut case: Case, random: &mut Random) -> Case {
+    let place = TIMES + 4 * random.below(4);
+    let time: u32 = random.pick(&[
+        0,
+        99,
+        100,
+        101,
+        120,
+        140,
+        150,
+        200,
+        300,
+        NONE - 1,
+        NONE,
+        NONE,
+        NONE,
+    ]);
+    case.slice[place..place + 4].copy_from_slice(&time.to_be_bytes());
+    case
 }
 
 #[cfg(test)]

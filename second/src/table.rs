@@ -160,37 +160,26 @@ pub fn check(bytes: &[u8], sides: Sides) -> Result<(), Refusal> {
 }
 
 #[cfg(test)]
-pub mod tests {
+mod tests {
     use super::*;
+    use crate::fixtures::brief::passing;
+    use crate::fixtures::{self, FEATURE, KIND};
+    use crate::record::NONE;
     use crate::refusal::number_of;
 
-    pub const FEATURE: Feature = [7; 16];
-
-    /// Makes a sound TEMPDELTA, or the same bytes as another kind.
-    pub fn record(kind: u8, sequence: u32, correction: u16, code: u16) -> Vec<u8> {
-        let mut record = vec![0; 224];
-        record[0] = kind;
-        record[2..4].copy_from_slice(&correction.to_be_bytes());
-        record[4..8].copy_from_slice(&sequence.to_be_bytes());
-        record[8..24].fill(255);
-        record[8..12].copy_from_slice(&[0, 0, 0, 120]);
-        record[32] = 2;
-        record[40..42].copy_from_slice(&code.to_be_bytes());
-        record
+    /// Makes a sound TEMPDELTA.
+    fn record(sequence: u32) -> Vec<u8> {
+        passing(sequence, 120, NONE, 9).record()
     }
 
     /// Makes a temporary table of some bytes that counts the records it is given.
-    pub fn table(length: usize, records: &[Vec<u8>]) -> Vec<u8> {
-        let count = records.len() as u8;
-        let head = [b'T', b'S', b'L', 1, 0, 1, 0, count];
-        let mut bytes = [&head[..], &FEATURE, &[0; 8], &records.concat()].concat();
-        bytes.resize(length, 0xa5);
-        bytes
+    fn table(length: usize, records: &[Vec<u8>]) -> Vec<u8> {
+        fixtures::table(Side::Temporary, records, length, 0xa5)
     }
 
     /// Makes three records in rising order.
     fn three() -> [Vec<u8>; 3] {
-        [1, 2, 300].map(|sequence| record(3, sequence, 0, 9))
+        [1, 2, 300].map(record)
     }
 
     /// Answers the number of a table with a byte set.
@@ -290,10 +279,11 @@ pub mod tests {
             let bytes = table(1000, &wrong.map(Vec::clone));
             assert_eq!(check(&bytes, Sides::Both), Err(Refusal::Order));
         }
-        let other = record(3, 1, 1, 9);
-        let bytes = table(1000, &[one, other]);
+        let other = passing(1, 120, NONE, 9).with_correction(1);
+        let bytes = table(1000, &[one, other.record()]);
         assert_eq!(check(&bytes, Sides::Both), Err(Refusal::Order));
-        let bytes = table(1000, &[two, record(3, 1, 0, 9), record(1, 9, 0, 0)]);
+        let foreign = passing(9, 120, NONE, 0).with_byte(KIND, 1);
+        let bytes = table(1000, &[two, record(1), foreign.record()]);
         assert_eq!(check(&bytes, Sides::Both), Err(Refusal::Record));
     }
 

@@ -1,9 +1,9 @@
 //! The two tables of a feature, and the instants that matter in them.
 
+use crate::fixtures::{self, Case};
 use crate::layout::bytes_of;
 use crate::record::{Kind, Record, Side, NONE};
 use crate::table::{Sides, Table};
-use crate::vectors::sample::{self, Case};
 use std::collections::BTreeSet;
 
 /// The bytes of a permanent and of a temporary table.
@@ -29,6 +29,15 @@ pub enum Product {
 }
 
 impl Tables {
+    /// Makes two tables of so many bytes without a record.
+    pub fn empty(length: usize) -> Tables {
+        let table = |side| fixtures::table(side, &[], length, 0);
+        Tables {
+            permanent: table(Side::Permanent),
+            temporary: table(Side::Temporary),
+        }
+    }
+
     /// Makes the full tables of some cases, each of which goes to its side and its place.
     pub fn of(cases: &[Case]) -> Tables {
         let side = |side| {
@@ -39,7 +48,7 @@ impl Tables {
                 .collect();
             records.sort_by_key(|record| (record[0], record[4..8].to_vec()));
             let length = bytes_of(records.len());
-            sample::table(side, &records, length, 0)
+            fixtures::table(side, &records, length, 0)
         };
         Tables {
             permanent: side(Side::Permanent),
@@ -67,6 +76,11 @@ impl Tables {
         let instants: BTreeSet<u32> = times.filter(|&time| time != NONE).collect();
         instants.into_iter().collect()
     }
+}
+
+/// Makes the full permanent table of some cases.
+pub fn permanent(cases: &[Case]) -> Vec<u8> {
+    Tables::of(cases).permanent
 }
 
 /// Answers the times that a record gives.

@@ -3,7 +3,6 @@
 mod anchors;
 mod areas;
 mod asking;
-pub mod brief;
 mod cancelled;
 pub mod chance;
 mod content;
@@ -24,20 +23,20 @@ mod refusals;
 mod revivals;
 mod rooms;
 pub mod rules;
-pub mod sample;
 mod slices;
 pub mod themes;
 mod times;
 
 use crate::arrival::{self, Arrival};
+use crate::fixtures::Case;
 use crate::play::{round, Call, Player};
 use crate::property;
 use crate::refusal::{number_of, Refusal};
+use crate::slice;
 use crate::table::{self, Sides};
 use format::{
     buffer_line, changes, either_lines, line, BUFFER_BYTES, EXCHANGE, FEATURE_BYTES, TABLE_BYTES,
 };
-use sample::Case;
 use std::convert::Infallible;
 
 /// One line of the listing: a title for a person, or an ask.
@@ -171,7 +170,7 @@ impl Script {
         let feature_line = self.set_feature(&case.feature);
         let buffer_line = self.set_buffer(&case.slice);
         let changes = feature_line.into_iter().chain(buffer_line).collect();
-        let answer = case.number().to_string();
+        let answer = number_of(slice::check(&case.slice, &case.feature, case.side)).to_string();
         self.ask(changes, line('s', &[case.side]), answer);
     }
 
@@ -310,7 +309,6 @@ mod tests {
     use super::*;
     use crate::property::{decode, find, properties};
     use crate::question::{permanent_state, property, snapshot};
-    use crate::slice;
     use crate::tables::Product;
     use std::collections::BTreeMap;
 

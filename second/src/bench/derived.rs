@@ -1,10 +1,10 @@
 //! Tables of which baselines are derived, as many as each has records.
 
+use crate::fixtures::Case;
 use crate::random::Random;
 use crate::record::{Kind, NONE};
 use crate::supply::{parts, STRETCH};
-use crate::tables::Tables;
-use crate::vectors::sample::Case;
+use crate::tables::permanent;
 
 /// What the tables are like.
 #[derive(Clone, Copy, Debug)]
@@ -19,7 +19,7 @@ pub enum Shape {
 
 /// Makes a table of so many records.
 pub fn table(shape: Shape, count: usize, seed: u64) -> Vec<u8> {
-    Tables::of(&cases(shape, count, &mut Random::new(seed))).permanent
+    permanent(&cases(shape, count, &mut Random::new(seed)))
 }
 
 /// Makes so many slices, of forms at random, that give as many derived baselines.

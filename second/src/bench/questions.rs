@@ -1,11 +1,11 @@
 //! Tables of which states, snapshots and properties are asked, each with an instant that has a state.
 
 use super::scenes::Make;
+use crate::fixtures::Case;
 use crate::random::Random;
 use crate::record::{Kind, NONE};
 use crate::supply;
 use crate::tables::Tables;
-use crate::vectors::sample::Case;
 
 /// The instant of the questions about records that are alike; every one of them is applied.
 const ALIKE: u32 = 160;

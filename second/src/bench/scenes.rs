@@ -3,6 +3,7 @@
 use super::derived::{self, Shape};
 use super::questions::asked;
 use super::{Call, Scene, Use, RECORDS, TEXT};
+use crate::fixtures::{cases, table_of, FEATURE, RECORD};
 use crate::layout::{bytes_of, HEADER_BYTES, RECORD_BYTES};
 use crate::library::Reply;
 use crate::listing::list;
@@ -10,7 +11,6 @@ use crate::question::property;
 use crate::random::Random;
 use crate::record::{Kind, Side};
 use crate::supply;
-use crate::vectors::sample::{cases, table_of, FEATURE, RECORD};
 
 /// What the records of a table are like.
 #[derive(Clone, Copy, Debug)]

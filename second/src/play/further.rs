@@ -3,6 +3,7 @@
 //! that came out put in again.
 
 use super::{Asked, Player, Round};
+use crate::fixtures::{self, FEATURE, KIND, RECORD, TIMES};
 use crate::histories::History;
 use crate::layout::{bytes_of, RECORD_BYTES};
 use crate::random::Random;
@@ -10,9 +11,6 @@ use crate::record::{Side, NONE};
 use crate::slice;
 use crate::supply;
 use crate::tables::{Product, Question, Tables};
-use crate::vectors::chance::drift;
-use crate::vectors::parts::edge_part;
-use crate::vectors::sample::{self, FEATURE, KIND, RECORD, TIMES};
 use std::collections::BTreeMap;
 
 /// Who calls are put to, and who holds a table against another.
@@ -64,7 +62,7 @@ impl Feed {
             }
         }
         let records: Vec<_> = records.values().map(|one| one[RECORD..].to_vec()).collect();
-        sample::table(self.side, &records, length, fill)
+        fixtures::table(self.side, &records, length, fill)
     }
 }
 
@@ -118,23 +116,23 @@ impl<P: Judge> Round<'_, P> {
     /// Plays records that are mostly sound, with a field or two changed and with doubles at their ends: as
     /// slices that arrive, and as tables of one record that are used.
     fn drifting_records(&mut self) -> Result<(), P::Fault> {
-        let starts = [sample::sound_cases(), sample::cancelled_cases()].concat();
+        let starts = [fixtures::sound_cases(), fixtures::cancelled_cases()].concat();
         for _ in 0..DRIFTING {
             let mut case = starts[self.random.below(starts.len())].clone();
             let side = Side::of(case.side).expect("a sound case is of a side");
             for _ in 0..=self.random.below(2) {
                 case = match self.random.below(3) {
                     0 => {
-                        let part = edge_part(&mut self.random);
+                        let part = supply::edge_part(&mut self.random);
                         case.with_part(self.random.below(8), &part)
                     }
-                    _ => drift(case, &mut self.random),
+                    _ => supply::drift(case, &mut self.random),
                 };
             }
             let mut tables = Tables::of(&[]);
             tables.of_side(side).resize(bytes_of(2), 0);
             self.arrive(tables.of_side(side), &case.slice)?;
-            *tables.of_side(side) = sample::table(side, &[case.record()], bytes_of(1), 0);
+            *tables.of_side(side) = fixtures::table(side, &[case.record()], bytes_of(1), 0);
             let instant = self.random.pick(&[100, 120, 150, 200]);
             self.some_uses(&tables, instant)?;
         }

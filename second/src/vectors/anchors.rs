@@ -1,9 +1,10 @@
 //! Histories with one anchor, with none and with two, and the changes that are applied after it.
 
-use super::brief::{base, baseline, change, opening, passing, SEQUENCES};
-use super::sample::{code, Case};
 use super::Script;
+use crate::fixtures::brief::{base, baseline, change, opening, passing, SEQUENCES};
+use crate::fixtures::{code, Case};
 use crate::record::NONE;
+use crate::tables::Tables;
 
 /// Adds every history about anchors.
 pub fn add(script: &mut Script) {
@@ -152,12 +153,12 @@ fn first_and_last_instants(script: &mut Script) {
             passing.to_vec(),
             [others, passing].concat(),
         ] {
-            let tables = crate::tables::Tables::of(&[vec![anchor.clone()], cases].concat());
+            let tables = Tables::of(&[vec![anchor.clone()], cases].concat());
             script.ask_at(&tables, &instants, &[0, 1]);
         }
     }
     for opened in [opening(1, 0, 2), opening(1, last, 2)] {
-        let tables = crate::tables::Tables::of(&[opened, passing(1, 0, last, 5)]);
+        let tables = Tables::of(&[opened, passing(1, 0, last, 5)]);
         script.ask_at(&tables, &instants, &[0, 1]);
     }
 }

@@ -1,7 +1,9 @@
 //! Asks for the property rule over the eight properties of a record.
 
-use super::sample::{broken_parts, choices, code, mentions, sound_parts, unmentioned, Area, Part};
 use super::Script;
+use crate::fixtures::{
+    broken_parts, choices, code, mentions, sound_parts, unmentioned, Area, Part,
+};
 use crate::layout::{PROPERTIES, PROPERTY_BYTES};
 use crate::random::Random;
 

@@ -2,8 +2,8 @@
 
 use super::format::{changes, digits, instant_line, line, record_line, table_lines};
 use super::format::{EXCHANGE, RECORD_BYTES, TABLE_BYTES};
-use super::sample::Case;
 use super::{refused, Script};
+use crate::fixtures::Case;
 use crate::layout::RECORD_BYTES as WHOLE;
 use crate::question::{permanent_state, property, snapshot, Part};
 use crate::record::Side;

@@ -1,9 +1,9 @@
 //! Cancelled slices that still say something.
 
-use super::sample::{
+use super::Script;
+use crate::fixtures::{
     broken_parts, cancelled_cases, sound_cases, unmentioned, Case, Time, FLAGS, KIND, PARTS, TIMES,
 };
-use super::Script;
 use crate::layout::PROPERTIES;
 use crate::record::NONE;
 

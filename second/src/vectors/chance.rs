@@ -1,13 +1,11 @@
 //! Random slices, and sound slices with bits turned over.
 
-use super::sample::{
-    broken_parts, cancelled_cases, sound_cases, sound_parts, unmentioned, Case, FEATURE, FLAGS,
-    KIND, PARTS, SPARE, TIMES,
-};
 use super::Script;
-use crate::layout::PROPERTIES;
+use crate::fixtures::{
+    cancelled_cases, sound_cases, Case, FEATURE, FLAGS, KIND, PARTS, SPARE, TIMES,
+};
 use crate::random::Random;
-use crate::record::NONE;
+use crate::supply::drift;
 
 /// Adds every random ask about slices.
 pub fn add(script: &mut Script) {
@@ -68,42 +66,4 @@ fn drifting_slices(script: &mut Script) {
         }
         script.ask_slice(&case);
     }
-}
-
-/// Answers the case with one field changed at random, mostly to something that could be right.
-pub fn drift(case: Case, random: &mut Random) -> Case {
-    let index = random.below(PROPERTIES);
-    match random.below(24) {
-        0 => case.with_byte(KIND, random.pick(&[1, 1, 2, 2, 3, 4])),
-        1 => case.with_byte(FLAGS, random.pick(&[0, 1, 1, 2])),
-        2 => case.with_side(random.pick(&[0, 1])),
-        3 => case.with_byte(SPARE + index, random.pick(&[0, 1])),
-        4 => case.with_part(index, &random.pick(&broken_parts())),
-        5..=12 => drift_time(case, random),
-        13 => case.with_byte(KIND + 2 + random.below(6), random.byte()),
-        14..=18 => case.with_part(index, &unmentioned()),
-        _ => case.with_part(index, &random.pick(&sound_parts())),
-    }
-}
-
-/// Answers the case with one of its times changed at random.
-fn drift_time(mut case: Case, random: &mut Random) -> Case {
-    let place = TIMES + 4 * random.below(4);
-    let time: u32 = random.pick(&[
-        0,
-        99,
-        100,
-        101,
-        120,
-        140,
-        150,
-        200,
-        300,
-        NONE - 1,
-        NONE,
-        NONE,
-        NONE,
-    ]);
-    case.slice[place..place + 4].copy_from_slice(&time.to_be_bytes());
-    case
 }

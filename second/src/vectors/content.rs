@@ -1,7 +1,7 @@
 //! Slices that mention more or less.
 
-use super::sample::{broken_parts, choices, nil, sound_parts, unmentioned, Case, Part, Time};
 use super::Script;
+use crate::fixtures::{broken_parts, choices, nil, sound_parts, unmentioned, Case, Part, Time};
 use crate::layout::PROPERTIES;
 use crate::record::Kind;
 

@@ -1,7 +1,7 @@
 //! Asks for a new table.
 
-use super::sample::FEATURE;
 use super::Script;
+use crate::fixtures::FEATURE;
 use crate::random::Random;
 
 /// Adds every ask for a new table.

@@ -1,8 +1,8 @@
 //! Full tables of 256 records.
 
-use super::brief::{baseline, cancelling, change, passing};
-use super::sample::{code, Case};
 use super::Script;
+use crate::fixtures::brief::{baseline, cancelling, change, mention_only, passing};
+use crate::fixtures::Case;
 use crate::layout::RECORD_BYTES;
 use crate::record::NONE;
 use crate::tables::Tables;
@@ -16,8 +16,7 @@ pub fn add(script: &mut Script) {
 
 /// Answers a delta that mentions one property alone, with its sequence number as the value.
 fn spread(case: Case, sequence: u32) -> Case {
-    case.with_part(0, &super::sample::unmentioned())
-        .with_part(sequence as usize % 8, &code(sequence as u16))
+    mention_only(case, sequence as usize % 8, sequence as u16)
 }
 
 /// Makes 256 TEMPDELTAs, each around the next.

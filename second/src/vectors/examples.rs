@@ -1,10 +1,10 @@
 //! The paper's fourteen examples, each slice brought to its table.
 
-use super::brief::{base, baseline, cancelling, change, closing, opening, passing};
-use super::sample::{self, nil, Case};
 use super::Script;
+use crate::fixtures::brief::{base, baseline, cancelling, change, closing, opening, passing};
+use crate::fixtures::{nil, Case};
 use crate::layout::bytes_of;
-use crate::record::{Side, NONE};
+use crate::record::NONE;
 use crate::tables::Tables;
 
 /// Slices in the order in which they come, and the instants that are asked about.
@@ -40,12 +40,7 @@ pub fn add(script: &mut Script) {
 
 /// Makes two tables without records, with room for four.
 fn empty() -> Tables {
-    let length = bytes_of(4);
-    let table = |side| sample::table(side, &[], length, 0);
-    Tables {
-        permanent: table(Side::Permanent),
-        temporary: table(Side::Temporary),
-    }
+    Tables::empty(bytes_of(4))
 }
 
 /// Answers a slice with nil, unknown in each property but the first; a cancelled one stays.

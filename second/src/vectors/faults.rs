@@ -1,7 +1,9 @@
 //! Slices with one fault, with two, and with every fault from a number on: the earlier number wins.
 
-use super::sample::{code, length, nil, part, unmentioned, Case, Time, FLAGS, KIND, PARTS, SPARE};
 use super::Script;
+use crate::fixtures::{
+    code, length, nil, part, unmentioned, Case, Time, FLAGS, KIND, PARTS, SPARE,
+};
 use crate::record::{Kind, NONE};
 
 /// A way to spoil a case, with the number it alone is refused for.
@@ -181,15 +183,22 @@ fn chain(base: &Case, faults: &[Fault], from: u8) -> Option<(Case, u8)> {
 #[cfg(test)]
 mod tests {
     use super::*;
+    use crate::refusal::number_of;
+    use crate::slice::check;
+
+    /// Answers the number of the slice check, 0 where the slice is sound.
+    fn number(case: &Case) -> u8 {
+        number_of(check(&case.slice, &case.feature, case.side))
+    }
 
     /// Each fault has its number, and of two the earlier counts.
     #[test]
     fn the_earlier_number_wins() {
         for (base, faults) in spoilable() {
-            assert_eq!(base.number(), 0);
+            assert_eq!(number(&base), 0);
             assert!(faults.is_sorted_by_key(|fault| fault.number));
-            for (case, number) in spoiled(&base, &faults) {
-                assert_eq!(case.number(), number);
+            for (case, expected) in spoiled(&base, &faults) {
+                assert_eq!(number(&case), expected);
             }
         }
     }

@@ -1,7 +1,7 @@
 //! Whole deliveries, shuffled, with repeats and damaged slices among them, each to a new table.
 
-use super::sample::{code, Case, FEATURE};
 use super::Script;
+use crate::fixtures::{code, Case, FEATURE};
 use crate::layout::bytes_of;
 use crate::random::Random;
 use crate::record::{Kind, Side};

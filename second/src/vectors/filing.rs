@@ -1,7 +1,7 @@
 //! Arrivals at sound tables: every place, every answer, every correction and sequence that matters.
 
-use super::sample::{cases, choices, code, table_of, Case, FEATURE, RECORD};
 use super::Script;
+use crate::fixtures::{cases, choices, code, length, table_of, Case, FEATURE, RECORD};
 use crate::layout::RECORD_BYTES;
 use crate::record::{Kind, Side};
 use crate::supply::{kinds, EDGES};
@@ -175,8 +175,8 @@ fn cancelled_and_back(script: &mut Script) {
 /// Adds the two zeros of a double: they are other bytes, and so clash.
 fn zeros(script: &mut Script) {
     script.title("arrival: the two zeros clash");
-    let zero = super::sample::length(0, 1);
-    let minus = super::sample::length(1 << 63, 1);
+    let zero = length(0, 1);
+    let minus = length(1 << 63, 1);
     for kind in Kind::ALL {
         let [plus, minus] = [zero, minus].map(|part| Case::any(kind).with_part(4, &part));
         for (stored, case) in [(&plus, &minus), (&minus, &plus), (&minus, &minus)] {

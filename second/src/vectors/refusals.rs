@@ -1,8 +1,8 @@
 //! Questions with one fault, and with two: the earlier one is answered.
 
 use super::rules::{self, at, set};
-use super::sample::{Case, Time};
 use super::Script;
+use crate::fixtures::{Case, Time};
 use crate::layout::RECORD_BYTES;
 use crate::record::{Kind, NONE};
 use crate::tables::{Question, Tables};

@@ -1,10 +1,10 @@
 //! Records that are cancelled, come back and move, each correction brought to its table.
 
-use super::brief::{base, baseline, cancelling, change, closing, opening, passing};
-use super::sample::{self, Case};
 use super::Script;
+use crate::fixtures::brief::{base, baseline, cancelling, change, closing, opening, passing};
+use crate::fixtures::Case;
 use crate::layout::bytes_of;
-use crate::record::{Side, NONE};
+use crate::record::NONE;
 use crate::tables::Tables;
 
 /// The instants that are asked about after each arrival.
@@ -45,11 +45,7 @@ fn roomy(cases: &[Case]) -> Tables {
 /// Adds a record brought, cancelled, late, revived elsewhere and cancelled again, with a BASELINE or
 /// without.
 fn alone(script: &mut Script, case: &Case, other: &Case) {
-    let empty = |side| sample::table(side, &[], bytes_of(8), 0);
-    let mut tables = Tables {
-        permanent: empty(Side::Permanent),
-        temporary: empty(Side::Temporary),
-    };
+    let mut tables = Tables::empty(bytes_of(8));
     if case.head().kind != 1 {
         script.bring(&mut tables, &baseline(9, [100, 200, 100, NONE], 99));
     }

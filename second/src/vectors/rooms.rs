@@ -1,7 +1,7 @@
 //! Tables of every room that matters, with counts at, over and far over it.
 
-use super::sample::{cases, table_of, Case};
 use super::Script;
+use crate::fixtures::{cases, table_of, Case};
 use crate::layout::{bytes_of, HEADER_BYTES, RECORD_BYTES};
 use crate::record::Kind;
 use crate::table::Sides;

@@ -1,7 +1,7 @@
 //! Tables that break one of the rules 1 to 7, two of them, and every one from a number on.
 
-use super::sample::{cases, nil, table_of, unmentioned, Case, RECORD};
 use super::Script;
+use crate::fixtures::{cases, nil, table_of, unmentioned, Case, RECORD};
 use crate::layout::{bytes_of, HEADER_BYTES, PROPERTIES, RECORD_BYTES};
 use crate::random::Random;
 use crate::record::{Kind, Side, NONE};

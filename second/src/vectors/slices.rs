@@ -1,9 +1,9 @@
 //! Asks for the slice check: lengths, features, kinds, sides, flags, and each byte disturbed.
 
-use super::sample::{
+use super::Script;
+use crate::fixtures::{
     cancelled_cases, sound_cases, Case, FEATURE, FLAGS, KIND, PARTS, RECORD, SPARE,
 };
-use super::Script;
 use crate::layout::SLICE_BYTES;
 use crate::record::Kind;
 

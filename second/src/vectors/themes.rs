@@ -1,9 +1,9 @@
 //! Permanent histories by theme, of which baselines are derived.
 
-use super::brief::{base, baseline, cancelling, change, closing, opening, SEQUENCES};
-use super::sample::{code, mentions, nil, sound_parts, unmentioned, Case, Time};
+use crate::fixtures::brief::{base, baseline, cancelling, change, closing, opening, SEQUENCES};
+use crate::fixtures::{code, mentions, nil, sound_parts, unmentioned, Case, Time};
 use crate::record::NONE;
-use crate::tables::Tables;
+use crate::tables::permanent;
 
 /// The last instant.
 const LAST: u32 = NONE - 1;
@@ -18,9 +18,7 @@ pub struct Theme {
 impl Theme {
     /// Answers the permanent tables of the histories, each without a byte behind its records.
     pub fn tables(&self) -> impl Iterator<Item = Vec<u8>> + '_ {
-        self.histories
-            .iter()
-            .map(|cases| Tables::of(cases).permanent)
+        self.histories.iter().map(|cases| permanent(cases))
     }
 }
 

@@ -1,7 +1,7 @@
 //! Slices whose times run over the values that matter.
 
-use super::sample::{unmentioned, Case};
 use super::Script;
+use crate::fixtures::{unmentioned, Case};
 use crate::layout::PROPERTIES;
 use crate::record::{Kind, NONE};
 

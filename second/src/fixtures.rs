@@ -1,9 +1,11 @@
-//! Sound parts, sound slices, and ways to change them.
+//! Parts, slices and tables to try the rules on, sound and broken, and ways to change them.
+
+pub mod brief;
+pub mod doubles;
+pub mod rows;
 
 use crate::layout::{bytes_of, FEATURE_BYTES, HEAD_BYTES, PROPERTIES, PROPERTY_BYTES};
 use crate::record::{Correction, Head, Kind, Sequence, Side, Span, NONE};
-use crate::refusal::number_of;
-use crate::slice::check;
 
 /// The bytes of one property.
 pub type Part = [u8; PROPERTY_BYTES];
@@ -278,11 +280,6 @@ impl Case {
     pub fn with_side(self, side: u8) -> Case {
         Case { side, ..self }
     }
-
-    /// Answers the number of the slice check, 0 where the slice is sound.
-    pub fn number(&self) -> u8 {
-        number_of(check(&self.slice, &self.feature, self.side))
-    }
 }
 
 /// Makes a table of a side that counts the records it is given, filled up to a length.
@@ -339,17 +336,10 @@ mod tests {
     use super::*;
     use crate::property::decode;
 
-    /// Sound samples are sound, broken ones broken.
+    /// Sound parts are sound, broken ones broken.
     #[test]
-    fn samples_are_what_they_are_called() {
+    fn parts_are_what_they_are_called() {
         assert!(sound_parts().iter().all(|part| decode(part).is_some()));
         assert!(broken_parts().iter().all(|part| decode(part).is_none()));
-        assert!(sound_cases()
-            .iter()
-            .chain(&cancelled_cases())
-            .all(|case| case.number() == 0));
-        assert!(Kind::ALL
-            .into_iter()
-            .all(|kind| Case::any(kind).number() == 0));
     }
 }
