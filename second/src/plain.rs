@@ -5,6 +5,7 @@
 mod derive;
 mod few;
 mod listing;
+mod standing;
 mod state;
 mod walk;
 

@@ -1,7 +1,7 @@
 //! What is measured: each call on tables of so many records, with what it answers.
 
 use super::derived::{self, Shape};
-use super::questions::asked;
+use super::questions::{asked, Make};
 use super::{Call, Scene, Use, RECORDS, TEXT};
 use crate::fixtures::{cases, table_of, FEATURE, RECORD};
 use crate::layout::{bytes_of, HEADER_BYTES, RECORD_BYTES};
@@ -11,15 +11,6 @@ use crate::question::property;
 use crate::random::Random;
 use crate::record::{Kind, Side};
 use crate::supply;
-
-/// What the records of a table are like.
-#[derive(Clone, Copy, Debug)]
-pub enum Make {
-    /// TEMPDELTAs of one form each.
-    Alike,
-    /// BASELINEs and PERMDELTAs, some cancelled, of forms at random.
-    Mixed,
-}
 
 /// Makes every scene on tables of so many records, in the order of the table that is printed.
 pub fn all(count: usize) -> Vec<Scene> {
@@ -83,7 +74,8 @@ fn made(table: Vec<u8>, call: Call, kind: u32) -> Use {
     }
 }
 
-/// Makes a table that counts so many records and has no room for more.
+/// Makes a table that counts so many records and has no room for more: TEMPDELTAs that are alike, or
+/// BASELINEs and PERMDELTAs, mixed.
 fn full_table(make: Make, count: usize, seed: u64) -> Vec<u8> {
     match make {
         Make::Mixed => supply::table(&mut Random::new(seed), Side::Permanent, count, 0),

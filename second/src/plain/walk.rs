@@ -1,7 +1,7 @@
 //! A walk from change instant to change instant by the times of the records, noted once: each state goes on
 //! from the one before where it can.
 
-use super::derive::{Standing, NOTHING};
+use super::standing::{Standing, NOTHING};
 use super::state::{state_at, BEGIN, END, LIFE_BEGIN, LIFE_END};
 use super::{number, Record, MOST, NONE};
 use crate::refusal::Refusal;
