@@ -306,11 +306,8 @@ mod tests {
         let mut random = Random::new(31);
         let mut history = History::new(&mut random);
         let mut counts = BTreeMap::new();
-        for step in 0..10_000 {
-            if step % 20 == 0 {
-                history = History::new(&mut random);
-            }
-            history.change(&mut random);
+        for _ in 0..10_000 {
+            history.go_on(&mut random, 20);
             *counts.entry(hold_history(history.tables())).or_insert(0) += 1;
         }
         let often = [None, Some(0), Some(1), Some(2), Some(3), Some(4), Some(5)];

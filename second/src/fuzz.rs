@@ -6,7 +6,7 @@ pub mod driver;
 
 use crate::compare::{Comparison, Difference};
 use crate::fixtures::{FEATURE, PARTS, TIMES};
-use crate::histories::History;
+use crate::histories::some_tables;
 use crate::layout::{bytes_of, PROPERTIES, PROPERTY_BYTES, RECORD_BYTES};
 use crate::library::Library;
 use crate::play::{Call, Player};
@@ -76,11 +76,7 @@ impl Program<'_> {
                 let (count, rest) = (self.random.below(ROOM), self.random.below(256));
                 *self.tables.of_side(side) = supply::table(&mut self.random, side, count, rest);
             }
-            _ => {
-                let mut history = History::new(&mut self.random);
-                history.change(&mut self.random);
-                self.tables = history.tables().clone();
-            }
+            _ => self.tables = some_tables(&mut self.random),
         }
     }
 

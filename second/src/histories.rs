@@ -33,6 +33,14 @@ pub struct History {
     tables: Tables,
 }
 
+/// Makes the tables of a history of a few records.
+#[cfg(any(test, feature = "linked"))]
+pub fn some_tables(random: &mut Random) -> Tables {
+    let mut history = History::new(random);
+    history.change(random);
+    history.tables
+}
+
 impl History {
     /// Makes a history of some records.
     pub fn new(random: &mut Random) -> History {
@@ -65,6 +73,14 @@ impl History {
             }
         }
         self.write();
+    }
+
+    /// Changes the history; one time in so many, a new one takes its place first.
+    pub fn go_on(&mut self, random: &mut Random, often: usize) {
+        if random.below(often) == 0 {
+            *self = History::new(random);
+        }
+        self.change(random);
     }
 
     /// Puts a new record in, or another in place of one where its table is full.
@@ -235,11 +251,8 @@ mod tests {
         let mut random = Random::new(5);
         let mut history = History::new(&mut random);
         let mut counts = BTreeMap::new();
-        for step in 0..600 {
-            if step % 20 == 0 {
-                history = History::new(&mut random);
-            }
-            history.change(&mut random);
+        for _ in 0..600 {
+            history.go_on(&mut random, 20);
             let tables = history.tables();
             assert_eq!(check(&tables.permanent, Sides::Permanent), Ok(()));
             assert_eq!(check(&tables.temporary, Sides::Temporary), Ok(()));

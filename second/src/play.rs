@@ -209,10 +209,7 @@ impl<'a, P: Player> Round<'a, P> {
     fn histories(&mut self) -> Result<(), P::Fault> {
         let mut history = History::new(&mut self.random);
         for _ in 0..HISTORIES {
-            if self.random.below(16) == 0 {
-                history = History::new(&mut self.random);
-            }
-            history.change(&mut self.random);
+            history.go_on(&mut self.random, 16);
             for instant in history.tables().instants() {
                 self.every_question(&Asked {
                     tables: history.tables(),
@@ -304,10 +301,7 @@ impl<'a, P: Player> Round<'a, P> {
         let long = bytes_of(18);
         let lengths = [0, 10, 31, 32, 255, 256, 480, long, long, long, long, 5000];
         for _ in 0..DERIVED {
-            if self.random.below(8) == 0 {
-                history = History::new(&mut self.random);
-            }
-            history.change(&mut self.random);
+            history.go_on(&mut self.random, 8);
             let Tables {
                 permanent,
                 temporary,

@@ -241,18 +241,25 @@ mod tests {
         }
     }
 
+    /// Holds that some times are right for a kind with so many mentions, and that others are not.
+    fn hold_times(kind: u8, mentions: usize, right: &[[u32; 4]], wrong: &[[u32; 4]]) {
+        for (some, number) in [(right, 0), (wrong, 15)] {
+            for &one in some {
+                assert_eq!(times(kind, one, mentions), number, "{one:?}");
+            }
+        }
+    }
+
     /// Each clause of a BASELINE's times, kept and broken.
     #[test]
     fn fifteen_is_for_a_baselines_times() {
-        for right in [
+        let right = [
             [100, NONE, NONE, NONE],
             [100, 101, 100, 101],
             [100, 200, 0, 200],
             [0, 1, 0, NONE],
-        ] {
-            assert_eq!(times(1, right, 8), 0);
-        }
-        for wrong in [
+        ];
+        let wrong = [
             [NONE, NONE, NONE, NONE],
             [100, 100, NONE, NONE],
             [100, 99, NONE, NONE],
@@ -260,9 +267,8 @@ mod tests {
             [100, NONE, NONE, 100],
             [100, NONE, NONE, 99],
             [100, 201, NONE, 200],
-        ] {
-            assert_eq!(times(1, wrong, 8), 15);
-        }
+        ];
+        hold_times(1, 8, &right, &wrong);
         // An end of none is not "at most" anything: it is not given.
         assert_eq!(times(1, [100, NONE, 100, 200], 8), 0);
     }
@@ -270,43 +276,37 @@ mod tests {
     /// Each clause of a PERMDELTA's times, kept and broken.
     #[test]
     fn fifteen_is_for_a_permdeltas_times() {
-        for right in [
+        let right = [
             [150, NONE, NONE, NONE],
             [150, NONE, 150, NONE],
             [150, NONE, NONE, 150],
-        ] {
-            assert_eq!(times(2, right, 1), 0);
-        }
-        for wrong in [
+        ];
+        let wrong = [
             [NONE, NONE, NONE, NONE],
             [150, 151, NONE, NONE],
             [150, NONE, 149, NONE],
             [150, NONE, NONE, 151],
             [150, NONE, 150, 150],
-        ] {
-            assert_eq!(times(2, wrong, 1), 15);
-        }
+        ];
+        hold_times(2, 1, &right, &wrong);
     }
 
     /// Each clause of a TEMPDELTA's times, kept and broken.
     #[test]
     fn fifteen_is_for_a_tempdeltas_times() {
-        for right in [
+        let right = [
             [120, NONE, NONE, NONE],
             [120, 121, NONE, NONE],
             [0, 4_294_967_294, NONE, NONE],
-        ] {
-            assert_eq!(times(3, right, 1), 0);
-        }
-        for wrong in [
+        ];
+        let wrong = [
             [NONE, NONE, NONE, NONE],
             [120, 120, NONE, NONE],
             [120, 119, NONE, NONE],
             [120, NONE, 120, NONE],
             [120, NONE, NONE, 120],
-        ] {
-            assert_eq!(times(3, wrong, 1), 15);
-        }
+        ];
+        hold_times(3, 1, &right, &wrong);
     }
 
     /// Every property, one or more, one or more or a life time.

@@ -4,7 +4,7 @@
 
 use super::{Asked, Player, Round};
 use crate::fixtures::{self, FEATURE, KIND, RECORD, TIMES};
-use crate::histories::History;
+use crate::histories::some_tables;
 use crate::layout::{bytes_of, RECORD_BYTES};
 use crate::random::Random;
 use crate::record::{Side, NONE};
@@ -90,14 +90,14 @@ impl<P: Judge> Round<'_, P> {
             self.player.hold(&table, &right)?;
             supply::shuffle(&mut self.random, &mut feed.slices);
         }
-        let mut tables = self.some_history();
+        let mut tables = some_tables(&mut self.random);
         *tables.of_side(side) = right;
         self.fed_back(tables)
     }
 
     /// Plays every call on the tables of a small history with each byte of one of them damaged.
     fn damaged_tables(&mut self) -> Result<(), P::Fault> {
-        let mut tables = self.some_history();
+        let mut tables = some_tables(&mut self.random);
         let (side, instant) = (self.side(), self.some_instant(&tables));
         let table = tables.of_side(side).clone();
         for offset in 0..table.len().min(counted(&table).len() + RECORD_BYTES) {
@@ -139,13 +139,6 @@ impl<P: Judge> Round<'_, P> {
         Ok(())
     }
 
-    /// Answers the tables of a history of a few records.
-    fn some_history(&mut self) -> Tables {
-        let mut history = History::new(&mut self.random);
-        history.change(&mut self.random);
-        history.tables().clone()
-    }
-
     /// Answers an instant that matters in two tables, or now and then any other.
     fn some_instant(&mut self, tables: &Tables) -> u32 {
         let mut instants = tables.instants();
@@ -169,7 +162,7 @@ impl<P: Judge> Round<'_, P> {
     /// Plays small histories, and the tables that are made of them.
     fn fed_back_histories(&mut self) -> Result<(), P::Fault> {
         for _ in 0..FED_BACK {
-            let tables = self.some_history();
+            let tables = some_tables(&mut self.random);
             self.fed_back(tables)?;
         }
         Ok(())

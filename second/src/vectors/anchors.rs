@@ -1,7 +1,7 @@
 //! Histories with one anchor, with none and with two, and the changes that are applied after it.
 
 use super::Script;
-use crate::fixtures::brief::{base, baseline, change, opening, passing, SEQUENCES};
+use crate::fixtures::brief::{base, change, from_to, opening, passing, SEQUENCES};
 use crate::fixtures::{code, Case};
 use crate::record::NONE;
 use crate::tables::Tables;
@@ -15,11 +15,6 @@ pub fn add(script: &mut Script) {
     equal_instants(script);
     changes_about_an_opening(script);
     first_and_last_instants(script);
-}
-
-/// Makes a BASELINE of a period, its life begun with it.
-fn from_to(sequence: u32, begin: u32, end: u32) -> Case {
-    baseline(sequence, [begin, end, begin, NONE], sequence as u16)
 }
 
 /// Adds two BASELINEs that overlap, touch, lie apart or begin together, and three.

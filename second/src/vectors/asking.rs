@@ -1,6 +1,6 @@
 //! The asks about an instant.
 
-use super::format::{changes, digits, instant_line, line, record_line, table_lines};
+use super::format::{changes, digits, instant_line, line, record_line, table_lines, value_line};
 use super::format::{EXCHANGE, RECORD_BYTES, TABLE_BYTES};
 use super::{refused, Script};
 use crate::fixtures::Case;
@@ -45,7 +45,12 @@ impl Script {
             _ => ('n', snapshot(table, other, instant, &mut after)),
         };
         let answer = written(answer) + &changes(record, &after);
-        lines.extend(self.set_record(record));
+        lines.extend(value_line(
+            &self.made.record,
+            record,
+            RECORD_BYTES,
+            record_line,
+        ));
         self.made.record = after;
         self.ask(lines, line(letter, &[]), answer);
     }
@@ -118,15 +123,5 @@ impl Script {
         let line = (self.made.instant != instant).then(|| instant_line(instant));
         self.made.instant = instant;
         line
-    }
-
-    /// Changes the record to one of one value; answers the line that does so, if one is needed.
-    fn set_record(&mut self, bytes: &[u8]) -> Option<String> {
-        if self.made.record == bytes {
-            return None;
-        }
-        let value = bytes.first().copied().unwrap_or(0);
-        assert!(bytes.len() <= RECORD_BYTES && bytes.iter().all(|byte| *byte == value));
-        Some(record_line(bytes.len(), value))
     }
 }

@@ -5,10 +5,9 @@ use super::themes::paper;
 use super::Script;
 use crate::fixtures::brief::{base, baseline, change, closing, opening};
 use crate::fixtures::rows::{apart, touching};
-use crate::fixtures::Case;
 use crate::layout::{bytes_of, RECORD_BYTES};
 use crate::random::Random;
-use crate::record::{Kind, Side, NONE};
+use crate::record::{Side, NONE};
 use crate::supply;
 use crate::tables::{permanent, Product};
 
@@ -48,12 +47,6 @@ fn sound() -> Vec<u8> {
     rules::bases()[0].clone()
 }
 
-/// Answers the table with a second BASELINE where its second record was.
-fn with_two_anchors(table: Vec<u8>) -> Vec<u8> {
-    let other = Case::usual(Kind::Baseline).with_sequence(8);
-    set(table, at(1), &other.record())
-}
-
 /// Adds every fault of a table alone, in pairs and in chains, into an output that is long enough, and
 /// into one that is not; the other side's table too.
 fn faults(script: &mut Script) {
@@ -73,7 +66,7 @@ fn faults(script: &mut Script) {
 /// Adds two anchors, with each fault of a table, and into outputs of every length.
 fn faults_and_anchors(script: &mut Script) {
     script.title("derived: two anchors and another fault");
-    let anchors = with_two_anchors(sound());
+    let anchors = rules::with_two_anchors(sound());
     for fault in rules::FAULTS {
         let spoiled = (fault.spoil)(anchors.clone());
         ask_into(script, &spoiled, LENGTH, 0);
@@ -245,7 +238,7 @@ mod tests {
         for (table, expected) in rules::spoiled(&sound()) {
             assert_eq!(number(&table, LENGTH), expected);
         }
-        let anchors = with_two_anchors(sound());
+        let anchors = rules::with_two_anchors(sound());
         assert_eq!([number(&anchors, 0), number(&anchors, LENGTH)], [21; 2]);
         for fault in rules::FAULTS {
             assert_eq!(number(&(fault.spoil)(sound()), 0), fault.number);

@@ -1,6 +1,6 @@
 //! The asks for derived baselines and for the listing.
 
-use super::format::{changes, line, output_line, OUTPUT_BYTES};
+use super::format::{changes, line, output_line, value_line, OUTPUT_BYTES};
 use super::themes::themes;
 use super::{refused, Script};
 use crate::derived::derive;
@@ -45,7 +45,12 @@ impl Script {
     /// Asks for something made of a table, into an output of these bytes.
     pub fn ask_product(&mut self, product: Product, table: &[u8], output: &[u8]) {
         let mut lines = self.set_table(table);
-        lines.extend(self.set_output(output));
+        lines.extend(value_line(
+            &self.made.output,
+            output,
+            OUTPUT_BYTES,
+            output_line,
+        ));
         let mut after = output.to_vec();
         let answer = product.make(table, &mut after);
         let answer = answer + &changes(output, &after);
@@ -79,22 +84,9 @@ impl Script {
         let mut random = Random::new(seed);
         let mut history = History::new(&mut random);
         for _ in 0..count {
-            if random.below(16) == 0 {
-                history = History::new(&mut random);
-            }
-            history.change(&mut random);
+            history.go_on(&mut random, 16);
             let length = random.pick(lengths);
             self.ask_next(product, &history.tables().permanent, length);
         }
-    }
-
-    /// Changes the output to one of one value; answers the line that does so, if one is needed.
-    fn set_output(&mut self, bytes: &[u8]) -> Option<String> {
-        if self.made.output == bytes {
-            return None;
-        }
-        let value = bytes.first().copied().unwrap_or(0);
-        assert!(bytes.len() <= OUTPUT_BYTES && bytes.iter().all(|byte| *byte == value));
-        Some(output_line(bytes.len(), value))
     }
 }

@@ -107,6 +107,22 @@ pub fn output_line(length: usize, value: u8) -> String {
     line('o', &[a, b, c, value])
 }
 
+/// Answers the line that makes bytes of one value out of others, if they differ; they are at most so
+/// many.
+pub fn value_line(
+    old: &[u8],
+    new: &[u8],
+    most: usize,
+    line: fn(usize, u8) -> String,
+) -> Option<String> {
+    if old == new {
+        return None;
+    }
+    let value = new.first().copied().unwrap_or(0);
+    assert!(new.len() <= most && new.iter().all(|byte| *byte == value));
+    Some(line(new.len(), value))
+}
+
 /// Answers the line that names an instant.
 pub fn instant_line(instant: u32) -> String {
     line('i', &instant.to_be_bytes())

@@ -37,15 +37,19 @@ fn each_form() -> [Part; 6] {
     [unmentioned(), nil, code, number, length, point]
 }
 
+/// Adds a part with every value of one of its bytes.
+fn every_value(script: &mut Script, mut part: Part, offset: usize) {
+    for value in 0..=255 {
+        part[offset] = value;
+        script.ask_part(&part);
+    }
+}
+
 /// Adds every form byte, with no detail and with one, and over the content of each form.
 fn forms(script: &mut Script) {
     script.title("property: every form byte");
     for base in [part(0, 1, &[])].into_iter().chain(each_form()) {
-        for form in 0..=255 {
-            let mut part = base;
-            part[0] = form;
-            script.ask_part(&part);
-        }
+        every_value(script, base, 0);
     }
 }
 
@@ -53,11 +57,7 @@ fn forms(script: &mut Script) {
 fn details(script: &mut Script) {
     script.title("property: every detail byte of each form");
     for base in each_form() {
-        for detail in 0..=255 {
-            let mut part = base;
-            part[1] = detail;
-            script.ask_part(&part);
-        }
+        every_value(script, base, 1);
     }
 }
 

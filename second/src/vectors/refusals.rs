@@ -113,8 +113,7 @@ impl Asking {
 
 /// Answers the asking with the second record a BASELINE as well, and the third counted still.
 fn two_anchors(mut asking: Asking) -> Asking {
-    let other = Case::usual(Kind::Baseline).with_sequence(8);
-    asking.tables.permanent = set(asking.tables.permanent, at(1), &other.record());
+    asking.tables.permanent = rules::with_two_anchors(asking.tables.permanent);
     asking
 }
 

@@ -102,6 +102,12 @@ pub fn bases() -> [Vec<u8>; 2] {
     [keys, other].map(|keys| table_of(&cases(&keys), RECORD_BYTES + 10, 0xee))
 }
 
+/// Answers the table with a second BASELINE where its second record was.
+pub fn with_two_anchors(table: Vec<u8>) -> Vec<u8> {
+    let other = Case::usual(Kind::Baseline).with_sequence(8);
+    set(table, at(1), &other.record())
+}
+
 /// Adds every ask about the rules of a table.
 pub fn add(script: &mut Script) {
     script.title("table: faults alone, in pairs, and all from a number on");

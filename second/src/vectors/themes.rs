@@ -1,6 +1,8 @@
 //! Permanent histories by theme, of which baselines are derived.
 
-use crate::fixtures::brief::{base, baseline, cancelling, change, closing, opening, SEQUENCES};
+use crate::fixtures::brief::{
+    base, baseline, cancelling, change, closing, from_to, opening, SEQUENCES,
+};
 use crate::fixtures::{code, mentions, nil, sound_parts, unmentioned, Case, Time};
 use crate::record::NONE;
 use crate::tables::permanent;
@@ -53,11 +55,6 @@ pub fn themes() -> Vec<Theme> {
 /// Makes the paper's example: all nil, and a code from 300 on.
 pub fn paper() -> Vec<Case> {
     vec![base().with_part(0, &nil(4)), change(1, 300, 7)]
-}
-
-/// Makes a BASELINE of a period, its life begun with it.
-fn from_to(sequence: u32, begin: u32, end: u32) -> Case {
-    baseline(sequence, [begin, end, begin, NONE], sequence as u16)
 }
 
 /// Makes histories without a state: without records, all cancelled, without an anchor.
