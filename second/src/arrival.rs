@@ -1,4 +1,4 @@
-//! Arrivals: a slice in delivery comes to a table.
+//! Arrivals: a slice is delivered to a table.
 
 use crate::record::Record;
 use crate::refusal::{hold, Refusal};
@@ -17,7 +17,7 @@ pub enum Arrival {
 }
 
 impl fmt::Display for Arrival {
-    /// Writes the arrival as an answer line has it.
+    /// Writes the arrival as in an answer line.
     fn fmt(&self, out: &mut fmt::Formatter) -> fmt::Result {
         out.write_str(match self {
             Arrival::Added => "added",
@@ -28,7 +28,7 @@ impl fmt::Display for Arrival {
     }
 }
 
-/// Brings a slice to a table; a refused one changes no byte.
+/// Delivers a slice to a table; if it is refused, no byte changes.
 pub fn arrive(bytes: &mut [u8], slice: &[u8]) -> Result<Arrival, Refusal> {
     let mut table = Table::read(bytes, Sides::Both)?;
     slice::check(slice, &table.feature, table.side.byte())?;
@@ -41,7 +41,8 @@ pub fn arrive(bytes: &mut [u8], slice: &[u8]) -> Result<Arrival, Refusal> {
 }
 
 impl Table {
-    /// Files a sound record, or refuses it: 17 where it clashes with one, 18 where it has no room.
+    /// Puts a sound record into the table, or refuses it: 17 if it clashes with one, 18 if there is
+    /// no room.
     fn file(&mut self, record: Record) -> Result<Arrival, Refusal> {
         let is_full = self.records.len() == self.room;
         match self.records.entry(record.key()) {
@@ -61,7 +62,7 @@ impl Table {
     }
 }
 
-/// Answers what a record does to the stored one of the same key, or 17.
+/// Returns what a record does to the stored one with the same key, or 17.
 fn correct(stored: &Record, record: &Record) -> Result<Arrival, Refusal> {
     let (old, new) = (stored.head.correction, record.head.correction);
     if new > old {
@@ -70,7 +71,7 @@ fn correct(stored: &Record, record: &Record) -> Result<Arrival, Refusal> {
     if new < old {
         return Ok(Arrival::Superseded);
     }
-    // By their bytes: as values the two zeros of a double would be equal.
+    // Compares bytes: as values the two zeros of a double would be equal.
     hold(stored.write() == record.write(), Refusal::Clash)?;
     Ok(Arrival::Repeat)
 }
@@ -88,18 +89,18 @@ mod tests {
         passing(sequence, 120, NONE, code).with_correction(correction)
     }
 
-    /// Makes a temporary table of some slices and room for so many records.
+    /// Makes a temporary table of some slices and room for this many records.
     fn table(room: usize, cases: &[Case]) -> Vec<u8> {
         let records: Vec<_> = cases.iter().map(Case::record).collect();
         fixtures::table(Side::Temporary, &records, bytes_of(room), 0xa5)
     }
 
-    /// Makes a table of 5, 7 and 9, all with correction 4, and room for so many.
+    /// Makes a table of 5, 7 and 9, all with correction 4, and room for this many records.
     fn three(room: usize) -> Vec<u8> {
         table(room, &[5, 7, 9].map(|sequence| delta(sequence, 4, 1)))
     }
 
-    /// Answers what an arrival says, and the table after it.
+    /// Returns the result of an arrival, and the table after it.
     fn after(bytes: &[u8], case: &Case) -> (Result<Arrival, Refusal>, Vec<u8>) {
         let mut bytes = bytes.to_vec();
         (arrive(&mut bytes, &case.slice), bytes)
@@ -145,7 +146,7 @@ mod tests {
         assert_eq!(after(&three(3), &other), (Err(Refusal::Clash), three(3)));
     }
 
-    /// Negative zero is other bytes.
+    /// Negative zero has different bytes.
     #[test]
     fn the_zeros_clash() {
         let [plus, minus] =

@@ -1,4 +1,4 @@
-//! Programs of calls that are read from bytes, as a fuzzer makes them, and played to a library and to this
+//! Programs of calls, decoded from the bytes of a fuzzer and played with a library and with this
 //! program.
 
 #[cfg(feature = "fuzz")]
@@ -19,7 +19,7 @@ use crate::tally::Tally;
 /// The most records of a table that a program fills.
 const ROOM: usize = 8;
 
-/// A program under way: what is left to read, who plays, and what the calls so far have left.
+/// A program in progress: the bytes still to read, the player, and what the calls so far have left.
 struct Program<'a> {
     random: Random,
     player: Comparison<'a>,
@@ -29,7 +29,7 @@ struct Program<'a> {
     output: Vec<u8>,
 }
 
-/// Plays the program of these bytes; answers the first difference.
+/// Plays the program that these bytes encode; returns the first difference.
 pub fn play(library: &Library, bytes: &[u8]) -> Result<(), Box<Difference>> {
     let mut tally = Tally::default();
     let mut program = Program {
@@ -62,7 +62,7 @@ impl Program<'_> {
         Ok(())
     }
 
-    /// Answers one side or the other.
+    /// Returns one side or the other.
     fn side(&mut self) -> Side {
         self.random.pick(&[Side::Permanent, Side::Temporary])
     }
@@ -104,7 +104,7 @@ impl Program<'_> {
         }
     }
 
-    /// Damages a table or the slice: somehow, or one byte of it.
+    /// Damages a table or the slice, in some way or in one byte.
     fn damage(&mut self) {
         let (choice, side) = (self.random.below(4), self.side());
         let random = &mut self.random;
@@ -120,7 +120,7 @@ impl Program<'_> {
         }
     }
 
-    /// Makes the record and the output anew, of other lengths.
+    /// Makes a new record and a new output of other lengths.
     fn resize(&mut self) {
         let length = self.random.pick(&[RECORD_BYTES, RECORD_BYTES, 223, 225]);
         self.record = vec![self.random.byte(); length];
@@ -129,7 +129,7 @@ impl Program<'_> {
         self.output = vec![self.random.byte(); length];
     }
 
-    /// Plays a new table in place of one of the two.
+    /// Plays a new table over one of the two.
     fn create(&mut self) -> Result<(), Box<Difference>> {
         let (side, number) = (self.side(), self.random.pick(&[0, 1, 2, 255]));
         let (mut feature, records) = (FEATURE, self.random.below(ROOM));
@@ -184,7 +184,7 @@ mod tests {
     use super::*;
     use crate::library::{Reply, PLAIN};
 
-    /// Answers how many of some programs of any bytes make a difference.
+    /// Returns how many of some programs of any bytes make a difference.
     fn differences(library: &Library) -> usize {
         let mut random = Random::new(1);
         let programs = (0..2000).map(|_| {

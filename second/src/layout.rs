@@ -24,7 +24,7 @@ pub const HEADER_BYTES: usize = 32;
 /// The most records of a table, whatever its bytes.
 pub const MOST_RECORDS: usize = 256;
 
-/// Returns how many bytes a table of so many records has, which is where its next record begins.
+/// Returns how many bytes a table of this many records has, which is where its next record begins.
 pub const fn bytes_of(records: usize) -> usize {
     HEADER_BYTES + records * RECORD_BYTES
 }

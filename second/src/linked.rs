@@ -3,7 +3,7 @@
 use crate::library::{Library, Reply};
 use crate::table::Feature;
 
-/// The C interface, declared once for all that link it.
+/// The C interface, declared once for all who link it.
 #[path = "../../bindings/rust/src/raw.rs"]
 mod raw;
 
@@ -19,7 +19,7 @@ pub const LINKED: Library = Library {
 };
 
 impl raw::Answer {
-    /// Answers the reply that says the same.
+    /// Returns the same as a reply.
     fn reply(self) -> Reply {
         Reply::new(self.kind, self.number)
     }

@@ -1,4 +1,4 @@
-//! Rounds of random, edge and damaged calls, put to whoever plays them.
+//! Rounds of random, edge and damaged calls, for any player to make.
 
 #[cfg(any(test, feature = "linked"))]
 pub mod further;
@@ -13,7 +13,7 @@ use crate::supply;
 use crate::table::Feature;
 use crate::tables::{permanent, Product, Question, Tables};
 
-/// A call that may change a place: a table, for a question the record, or else the output.
+/// A call that may change a buffer: a table, the record of a question, or an output.
 pub enum Call<'a> {
     Create {
         side: u8,
@@ -33,12 +33,12 @@ pub enum Call<'a> {
     },
 }
 
-/// Who a call is put to.
+/// Makes the calls of a round.
 pub trait Player {
     type Fault;
 
-    /// Takes a call; the place becomes what it is after it. A fault ends the round.
-    fn call(&mut self, place: &mut Vec<u8>, call: &Call) -> Result<(), Self::Fault>;
+    /// Makes a call, and leaves the buffer as the call left it. A fault ends the round.
+    fn call(&mut self, buffer: &mut Vec<u8>, call: &Call) -> Result<(), Self::Fault>;
 }
 
 /// Two tables and the instant that is asked about.
@@ -47,7 +47,7 @@ struct Asked<'a> {
     instant: u32,
 }
 
-/// A round under way, and the record and the output that the last call left.
+/// A round in progress, with the record and the output that the last call left.
 struct Round<'a, P: Player> {
     player: &'a mut P,
     random: Random,
@@ -60,7 +60,7 @@ struct Round<'a, P: Player> {
 const HISTORIES: usize = 240;
 const DERIVED: usize = 40;
 
-/// Plays one round of every sort of call, at tables of at most so many records, 40 or more.
+/// Plays one round of every sort of call, on tables of at most this many records, 40 or more.
 pub fn round<P: Player>(player: &mut P, seed: u64, most: usize) -> Result<(), P::Fault> {
     let mut round = Round::new(player, seed, most);
     round.creations()?;
@@ -74,7 +74,7 @@ pub fn round<P: Player>(player: &mut P, seed: u64, most: usize) -> Result<(), P:
 }
 
 impl<'a, P: Player> Round<'a, P> {
-    /// Answers a round that begins.
+    /// Starts a round.
     fn new(player: &'a mut P, seed: u64, most: usize) -> Round<'a, P> {
         Round {
             player,
@@ -95,7 +95,7 @@ impl<'a, P: Player> Round<'a, P> {
         self.player.call(table, &Call::Create { side, feature })
     }
 
-    /// Plays new tables in places of any length, filled with anything.
+    /// Plays new tables in buffers of any length, filled with anything.
     fn creations(&mut self) -> Result<(), P::Fault> {
         let full = bytes_of(self.most);
         for length in (0..40).chain([255, 256, 1000, full, full + 3000]) {
@@ -110,12 +110,12 @@ impl<'a, P: Player> Round<'a, P> {
         Ok(())
     }
 
-    /// Answers one side or the other.
+    /// Returns one side or the other.
     fn side(&mut self) -> Side {
         self.random.pick(&[Side::Permanent, Side::Temporary])
     }
 
-    /// Plays arrivals at sound tables of any size, at the tables that come out, and at spoiled ones.
+    /// Plays arrivals at sound tables of any size, at the resulting tables, and at spoiled ones.
     fn lone_arrivals(&mut self) -> Result<(), P::Fault> {
         for _ in 0..100 {
             let side = self.side();
@@ -318,7 +318,8 @@ impl<'a, P: Player> Round<'a, P> {
         Ok(())
     }
 
-    /// Plays derived baselines and listings of large histories: any one, and as many as fit or one more.
+    /// Plays derived baselines and listings of large histories: any one, and as many as fit or one
+    /// more.
     fn many_derived(&mut self) -> Result<(), P::Fault> {
         let most = bytes_of(self.most);
         let any = permanent(&supply::crowd(&mut self.random, self.most));

@@ -5,7 +5,7 @@ use crate::property::{find, Finding, Value};
 use crate::record::{Head, Instant, Kind, Record, Side, Span};
 use crate::refusal::{hold, Refusal};
 
-/// Answers the first refusal that a slice meets on its way to a side of a feature, if any.
+/// Returns the first refusal, 9 to 16, of a slice that is delivered to a side of a feature, if any.
 pub fn check(slice: &[u8], feature: &[u8], side: u8) -> Result<(), Refusal> {
     let slice: &[u8; SLICE_BYTES] = slice.try_into().map_err(|_| Refusal::Length)?;
     let record = slice.last_chunk().expect("a slice ends with a record");
@@ -13,7 +13,7 @@ pub fn check(slice: &[u8], feature: &[u8], side: u8) -> Result<(), Refusal> {
     check_record(&Record::read(record), side)
 }
 
-/// Answers the first refusal, 11 to 16, that a record meets on its way to a side, if any.
+/// Returns the first refusal, 11 to 16, of a record that is delivered to a side, if any.
 pub fn check_record(record: &Record, side: u8) -> Result<(), Refusal> {
     let Record { head, properties } = record;
     let kind = kind_of_side(head.kind, side).ok_or(Refusal::Kind)?;
@@ -34,17 +34,17 @@ pub fn check_record(record: &Record, side: u8) -> Result<(), Refusal> {
     )
 }
 
-/// Answers the kind that a byte names, where that kind is of the side.
+/// Returns the kind that a byte names, if that kind belongs to the side.
 fn kind_of_side(kind: u8, side: u8) -> Option<Kind> {
     Kind::of(kind).filter(|kind| Side::of(side) == Some(kind.side()))
 }
 
-/// Answers whether the flag bits 1 to 7 and the spare bytes are zero.
+/// Returns whether the flag bits 1 to 7 and the spare bytes are zero.
 fn spare_is_zero(head: &Head) -> bool {
     head.flags <= 1 && head.spare == [0; 8]
 }
 
-/// Answers whether a record has no time (all 255) and no property (all zero).
+/// Returns whether a record has no time (all 255) and no property (all zero).
 fn is_empty(record: &Record) -> bool {
     record.head.period == Span::NEITHER
         && record.head.life == Span::NEITHER
@@ -54,7 +54,7 @@ fn is_empty(record: &Record) -> bool {
             .all(|property| *property == Some(Value::Unmentioned))
 }
 
-/// Answers whether the times of a record of the kind are right.
+/// Returns whether the times of a record of the kind are right.
 fn times_are_right(kind: Kind, period: Span, life: Span) -> bool {
     let Some(begin) = period.begin else {
         return false;
@@ -66,7 +66,7 @@ fn times_are_right(kind: Kind, period: Span, life: Span) -> bool {
     }
 }
 
-/// Answers whether a BASELINE's end and life go with its begin and with each other.
+/// Returns whether a BASELINE's end and life fit its begin and each other.
 fn baseline_times(begin: Instant, end: Option<Instant>, life: Span) -> bool {
     end.is_none_or(|end| end > begin)
         && life.begin.is_none_or(|life_begin| life_begin <= begin)
@@ -76,7 +76,7 @@ fn baseline_times(begin: Instant, end: Option<Instant>, life: Span) -> bool {
             .is_none_or(|(end, life_end)| end <= life_end)
 }
 
-/// Answers whether a PERMDELTA has no end, and at most one life time, its own instant.
+/// Returns whether a PERMDELTA has no end, and at most one life time, its own instant.
 fn permdelta_times(instant: Instant, end: Option<Instant>, life: Span) -> bool {
     let life_is_right = match (life.begin, life.end) {
         (None, None) => true,
@@ -86,12 +86,12 @@ fn permdelta_times(instant: Instant, end: Option<Instant>, life: Span) -> bool {
     end.is_none() && life_is_right
 }
 
-/// Answers whether a TEMPDELTA's end comes after its begin, and it has no life.
+/// Returns whether a TEMPDELTA's end comes after its begin, and it has no life.
 fn tempdelta_times(begin: Instant, end: Option<Instant>, life: Span) -> bool {
     end.is_none_or(|end| end > begin) && life == Span::NEITHER
 }
 
-/// Answers whether a record of the kind says enough.
+/// Returns whether a record of the kind mentions enough.
 fn content_is_right(kind: Kind, mentions: usize, life: Span) -> bool {
     match kind {
         Kind::Baseline => mentions == PROPERTIES,
@@ -142,17 +142,17 @@ mod tests {
         })
     }
 
-    /// Answers the number of the check, 0 where the slice is sound.
+    /// Returns the number of the check, 0 if the slice is sound.
     fn number(slice: &[u8], side: u8) -> u8 {
         number_of(check(slice, &FEATURE, side))
     }
 
-    /// Answers the number for a slice of a kind, its times and its mentions, on its own side.
+    /// Returns the number for a slice of a kind, its times and its mentions, on its own side.
     fn times(kind: u8, times: [u32; 4], mentions: usize) -> u8 {
         number(&slice(kind, times, mentions), u8::from(kind == 3))
     }
 
-    /// Answers the number once a byte of a slice is set.
+    /// Returns the number for a slice with one byte changed.
     fn changed(slice: &[u8], side: u8, offset: usize, value: u8) -> u8 {
         let mut slice = slice.to_vec();
         slice[offset] = value;
@@ -241,7 +241,8 @@ mod tests {
         }
     }
 
-    /// Holds that some times are right for a kind with so many mentions, and that others are not.
+    /// Checks that some times are right for a kind with this many mentions, and that others are
+    /// not.
     fn hold_times(kind: u8, mentions: usize, right: &[[u32; 4]], wrong: &[[u32; 4]]) {
         for (some, number) in [(right, 0), (wrong, 15)] {
             for &one in some {

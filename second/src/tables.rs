@@ -13,7 +13,7 @@ pub struct Tables {
     pub temporary: Vec<u8>,
 }
 
-/// What is asked about two tables at an instant; the permanent state is asked of one of them.
+/// A question about two tables at an instant; the permanent state needs only one of them.
 #[derive(Clone, Copy, Debug, PartialEq)]
 pub enum Question {
     State,
@@ -21,7 +21,7 @@ pub enum Question {
     Property(u8),
 }
 
-/// What is made of a permanent table, into an output.
+/// What a call makes of a permanent table and writes into an output.
 #[derive(Clone, Copy, Debug, PartialEq)]
 pub enum Product {
     Derived,
@@ -29,7 +29,7 @@ pub enum Product {
 }
 
 impl Tables {
-    /// Makes two tables of so many bytes without a record.
+    /// Makes two tables of this many bytes without a record.
     pub fn empty(length: usize) -> Tables {
         let table = |side| fixtures::table(side, &[], length, 0);
         Tables {
@@ -38,7 +38,7 @@ impl Tables {
         }
     }
 
-    /// Makes the full tables of some cases, each of which goes to its side and its place.
+    /// Makes the full tables of some cases; each goes to its side, in order.
     pub fn of(cases: &[Case]) -> Tables {
         let side = |side| {
             let mut records: Vec<Vec<u8>> = cases
@@ -56,7 +56,7 @@ impl Tables {
         }
     }
 
-    /// Answers the table of a side, to be changed.
+    /// Returns the table of a side, for changing it.
     pub fn of_side(&mut self, side: Side) -> &mut Vec<u8> {
         match side {
             Side::Permanent => &mut self.permanent,
@@ -64,7 +64,8 @@ impl Tables {
         }
     }
 
-    /// Answers every time that a record of a sound table gives, and the instants beside it, rising.
+    /// Returns, in ascending order, every time that a record of a sound table gives, and the
+    /// instants next to it.
     pub fn instants(&self) -> Vec<u32> {
         let tables = [&self.permanent, &self.temporary];
         let sound = tables
@@ -83,7 +84,7 @@ pub fn permanent(cases: &[Case]) -> Vec<u8> {
     Tables::of(cases).permanent
 }
 
-/// Answers the times that a record gives.
+/// Returns the times that a record gives.
 fn times(record: Record) -> impl Iterator<Item = u32> {
     let (period, life) = (record.head.period, record.head.life);
     [period.begin, period.end, life.begin, life.end]

@@ -1,4 +1,4 @@
-//! Tables of which baselines are derived, as many as each has records.
+//! Tables to derive baselines from, as many as each has records.
 
 use crate::fixtures::Case;
 use crate::random::Random;
@@ -17,12 +17,12 @@ pub enum Shape {
     Open,
 }
 
-/// Makes a table of so many records.
+/// Makes a table of this many records.
 pub fn table(shape: Shape, count: usize, seed: u64) -> Vec<u8> {
     permanent(&cases(shape, count, &mut Random::new(seed)))
 }
 
-/// Makes so many slices, of forms at random, that give as many derived baselines.
+/// Makes this many slices, of forms at random, that give as many derived baselines.
 fn cases(shape: Shape, count: usize, random: &mut Random) -> Vec<Case> {
     let baselines = match shape {
         Shape::Row => count / 2,

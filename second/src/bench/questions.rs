@@ -1,4 +1,4 @@
-//! Tables of which states, snapshots and properties are asked, each with an instant that has a state.
+//! Tables to ask for states, snapshots and properties, each with an instant that has a state.
 
 use crate::fixtures::Case;
 use crate::random::Random;
@@ -18,7 +18,7 @@ pub enum Make {
 /// The instant of the questions about records that are alike; every one of them is applied.
 const ALIKE: u32 = 160;
 
-/// Makes two full tables of so many records each, and the instant that is asked about.
+/// Makes two full tables of this many records each, and the instant that is asked about.
 pub fn asked(make: Make, count: usize, seed: u64) -> (Tables, u32) {
     match make {
         Make::Alike => (Tables::of(&alike(count)), ALIKE),

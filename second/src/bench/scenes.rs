@@ -1,4 +1,4 @@
-//! What is measured: each call on tables of so many records, with what it answers.
+//! What is measured: each call on tables of this many records, with the expected reply.
 
 use super::derived::{self, Shape};
 use super::questions::{asked, Make};
@@ -12,7 +12,7 @@ use crate::random::Random;
 use crate::record::{Kind, Side};
 use crate::supply;
 
-/// Makes every scene on tables of so many records, in the order of the table that is printed.
+/// Makes every scene on tables of this many records, in the order of the table that is printed.
 pub fn all(count: usize) -> Vec<Scene> {
     let created = |seed| {
         [made(
@@ -65,7 +65,7 @@ fn scenes<const N: usize>(
     names.into_iter().enumerate().map(scene).collect()
 }
 
-/// Makes a use of a table that is accepted with a kind and no number.
+/// Makes a use of a table whose reply has a kind and no number.
 fn made(table: Vec<u8>, call: Call, kind: u32) -> Use {
     Use {
         table,
@@ -74,8 +74,8 @@ fn made(table: Vec<u8>, call: Call, kind: u32) -> Use {
     }
 }
 
-/// Makes a table that counts so many records and has no room for more: TEMPDELTAs that are alike, or
-/// BASELINEs and PERMDELTAs, mixed.
+/// Makes a table that counts this many records and has no room for more: TEMPDELTAs that are alike,
+/// or BASELINEs and PERMDELTAs, mixed.
 fn full_table(make: Make, count: usize, seed: u64) -> Vec<u8> {
     match make {
         Make::Mixed => supply::table(&mut Random::new(seed), Side::Permanent, count, 0),
@@ -88,7 +88,7 @@ fn full_table(make: Make, count: usize, seed: u64) -> Vec<u8> {
     }
 }
 
-/// Answers the slice of a table's record, under the correction 1.
+/// Returns the slice of a table's record, under the correction 1.
 fn slice(table: &[u8], index: usize) -> Vec<u8> {
     let start = bytes_of(index);
     let mut slice = [&FEATURE, &table[start..start + RECORD_BYTES]].concat();
@@ -96,14 +96,14 @@ fn slice(table: &[u8], index: usize) -> Vec<u8> {
     slice
 }
 
-/// Answers a table with another correction number in one of its records.
+/// Returns a table with another correction number in one of its records.
 fn corrected(mut table: Vec<u8>, index: usize, correction: u16) -> Vec<u8> {
     let place = bytes_of(index) + 2;
     table[place..place + 2].copy_from_slice(&correction.to_be_bytes());
     table
 }
 
-/// Answers a table without its first record, which leaves room for one.
+/// Returns a table without its first record, which leaves room for one.
 fn without_first(mut table: Vec<u8>) -> Vec<u8> {
     let count = u16::from_be_bytes([table[6], table[7]]) - 1;
     table[6..8].copy_from_slice(&count.to_be_bytes());
@@ -111,7 +111,8 @@ fn without_first(mut table: Vec<u8>) -> Vec<u8> {
     table
 }
 
-/// Makes the arrivals: a slice of no bytes, and one that is Added, Replaced, Superseded and a Repeat.
+/// Makes the arrivals: a slice of no bytes, and one that is Added, Replaced, Superseded and a
+/// Repeat.
 fn arrivals(make: Make, count: usize, seed: u64) -> [Use; 5] {
     let table = full_table(make, count, seed);
     let middle = count / 2;
@@ -170,7 +171,7 @@ mod tests {
     use crate::library::PLAIN;
     use crate::listing::MOST_BYTES;
 
-    /// Each call answers what its scene says, and a repeated one does so again.
+    /// Each call replies as its scene expects, and a repeated call does so again.
     #[test]
     fn scenes_are_what_they_are_called() {
         let mut output = vec![0; MOST_BYTES];

@@ -3,7 +3,7 @@
 use super::state::{parts_of, write, LIFE_BEGIN, LIFE_END};
 use super::{number, Part, Record, NONE};
 
-/// A record that says nothing.
+/// A record of zeros, which mentions nothing.
 pub static NOTHING: Record = [0; 224];
 
 /// The life times and the properties that an anchor and the changes after it leave.
@@ -14,7 +14,7 @@ pub struct Standing<'a> {
 }
 
 impl<'a> Standing<'a> {
-    /// Answers what an anchor leaves.
+    /// Returns what an anchor leaves.
     pub fn of(anchor: &'a Record) -> Standing<'a> {
         Standing {
             life: [LIFE_BEGIN, LIFE_END].map(|at| number(anchor, at)),
@@ -25,7 +25,7 @@ impl<'a> Standing<'a> {
     /// Takes over what a change mentions, and a life time that it gives.
     pub fn change(&mut self, change: &'a Record) {
         for (latest, part) in self.parts.iter_mut().zip(parts_of(change)) {
-            // A choice and no branch: nobody can guess which properties a change mentions.
+            // A choice and no branch: which properties a change mentions cannot be predicted.
             *latest = std::hint::select_unpredictable(part[0] != 0, part, *latest);
         }
         for (latest, at) in self.life.iter_mut().zip([LIFE_BEGIN, LIFE_END]) {
@@ -35,7 +35,7 @@ impl<'a> Standing<'a> {
         }
     }
 
-    /// Writes the standing as the derived BASELINE of a period, so many others before it.
+    /// Writes the standing as the derived BASELINE of a period, after this many others.
     pub fn write(&self, record: &mut Record, others: usize, [begin, end]: [u32; 2]) {
         let sequence = others as u32 + 1;
         let key = (1 << 56 | u64::from(sequence)).to_be_bytes();

@@ -91,7 +91,8 @@ fn changes_about_a_begin(script: &mut Script) {
     }
 }
 
-/// Adds changes at equal instants with sequence numbers both ways, of the same and of other properties.
+/// Adds changes at equal instants with sequence numbers both ways, of the same and of other
+/// properties.
 fn equal_instants(script: &mut Script) {
     script.title("anchors: changes at equal instants");
     for [one, other] in SEQUENCES {
@@ -107,7 +108,8 @@ fn equal_instants(script: &mut Script) {
     }
 }
 
-/// Adds an opening with changes before and after it in the order, of the same and of other properties.
+/// Adds an opening with changes before and after it in the order, of the same and of other
+/// properties.
 fn changes_about_an_opening(script: &mut Script) {
     script.title("anchors: changes before and after an opening in the order");
     let anchor = opening(5, 100, 1);

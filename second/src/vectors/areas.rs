@@ -18,7 +18,7 @@ pub fn add(script: &mut Script) {
     flipped_areas(script);
 }
 
-/// Answers eight sound properties of mixed forms, two of them not mentioned.
+/// Returns eight sound properties of mixed forms, two of them not mentioned.
 fn mixed() -> Area {
     let mut area = mentions();
     area[2] = unmentioned();
@@ -26,7 +26,7 @@ fn mixed() -> Area {
     area
 }
 
-/// Adds sound properties: mixed, every sound part in every place, and every choice of mentions.
+/// Adds sound properties: mixed, every sound part in every position, and every choice of mentions.
 fn sound_areas(script: &mut Script) {
     script.title("properties: sound");
     script.ask_area(&mentions().concat());
@@ -41,7 +41,7 @@ fn sound_areas(script: &mut Script) {
     choices().for_each(|area| script.ask_area(&area.concat()));
 }
 
-/// Answers the properties with one replaced.
+/// Returns the properties with one replaced.
 fn with(area: &Area, index: usize, part: &Part) -> Area {
     let mut area = *area;
     area[index] = *part;
@@ -74,7 +74,7 @@ fn two_broken(script: &mut Script) {
     }
 }
 
-/// Answers whether a length is a number of whole properties, or one byte more or less.
+/// Returns whether a length is a number of whole properties, or one byte more or less.
 fn beside(length: usize) -> bool {
     matches!(length % PROPERTY_BYTES, 0 | 1 | 23)
 }
@@ -130,7 +130,7 @@ fn random_areas(script: &mut Script) {
     }
 }
 
-/// Adds mixed sound properties with one to four bits turned over.
+/// Adds mixed sound properties with one to four bits flipped.
 fn flipped_areas(script: &mut Script) {
     script.title("properties: bits turned over");
     let mut random = Random::new(5);

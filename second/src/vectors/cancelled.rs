@@ -43,7 +43,7 @@ fn with_times(script: &mut Script) {
     }
 }
 
-/// Adds each broken part in some places: 13, not 14.
+/// Adds each broken part in some positions: 13, not 14.
 fn with_broken_properties(script: &mut Script) {
     script.title("cancelled: broken properties");
     for base in cancelled_cases() {

@@ -1,4 +1,4 @@
-//! Random slices, and sound slices with bits turned over.
+//! Random slices, and sound slices with bits flipped.
 
 use super::Script;
 use crate::fixtures::{
@@ -34,7 +34,7 @@ fn random_slices(script: &mut Script) {
     }
 }
 
-/// Adds each sound and cancelled slice with one to four bits turned over, anywhere or in its head.
+/// Adds each sound and cancelled slice with one to four bits flipped, anywhere or in its head.
 fn flipped_slices(script: &mut Script) {
     script.title("slice: bits turned over");
     let mut random = Random::new(7);

@@ -14,7 +14,7 @@ pub fn add(script: &mut Script) {
     cancelled_and_one(script);
 }
 
-/// Answers a delta that mentions one property alone, with its sequence number as the value.
+/// Returns a delta that mentions one property alone, with its sequence number as the value.
 fn spread(case: Case, sequence: u32) -> Case {
     mention_only(case, sequence as usize % 8, sequence as u16)
 }
@@ -78,7 +78,8 @@ fn rows_of_baselines(script: &mut Script) {
     script.ask_at(&Tables::of(&cases), &[2569, 2599, 2600], &[0]);
 }
 
-/// Adds 255 cancelled records of either table, and one that counts: the first, one in the middle, the last.
+/// Adds 255 cancelled records in each table and one that counts: the first, one in the middle, the
+/// last.
 fn cancelled_and_one(script: &mut Script) {
     script.title("full tables: one counted record among cancelled ones");
     for counted in [1, 128, 256] {

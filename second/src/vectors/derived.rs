@@ -1,4 +1,5 @@
-//! Asks for derived baselines: by theme, with faults, and into outputs of every length that matters.
+//! Asks for derived baselines: by theme, with faults, and into outputs of every length that
+//! matters.
 
 use super::rules::{self, at, set};
 use super::themes::paper;
@@ -11,7 +12,7 @@ use crate::record::{Side, NONE};
 use crate::supply;
 use crate::tables::{permanent, Product};
 
-/// The output of most asks: room for eight records, and a few bytes behind them.
+/// The output of most asks: room for eight records, and a few bytes after them.
 const LENGTH: usize = bytes_of(8) + 5;
 
 /// How many random histories are asked about.
@@ -32,7 +33,7 @@ pub fn add(script: &mut Script) {
     any_tables(script);
 }
 
-/// Asks for the derived baselines of a table, into what the last ask left.
+/// Asks for the derived baselines of a table, into the last output.
 fn ask(script: &mut Script, table: &[u8]) {
     script.ask_next(Product::Derived, table, LENGTH);
 }
@@ -47,8 +48,8 @@ fn sound() -> Vec<u8> {
     rules::bases()[0].clone()
 }
 
-/// Adds every fault of a table alone, in pairs and in chains, into an output that is long enough, and
-/// into one that is not; the other side's table too.
+/// Adds every fault of a table alone, in pairs and in chains, into an output that is long enough,
+/// and into one that is not; the other side's table too.
 fn faults(script: &mut Script) {
     script.title("derived: faults of a table alone, in pairs, and all from a number on");
     let [lasting, passing] = rules::bases();
@@ -77,7 +78,7 @@ fn faults_and_anchors(script: &mut Script) {
     }
 }
 
-/// Makes a table that gives so many derived records: a BASELINE and changes after it.
+/// Makes a table that gives this many derived records: a BASELINE and changes after it.
 fn row(count: u32) -> Vec<u8> {
     let changes = (1..count).map(|index| change(index, 100 + 10 * index, index as u16));
     let anchor = (count > 0).then(base);
@@ -119,7 +120,7 @@ fn withdrawn_lengths(script: &mut Script) {
     }
 }
 
-/// Adds tables with bytes behind their records, which mean nothing, and with records not counted.
+/// Adds tables with bytes after their records, which mean nothing, and with records not counted.
 fn tables_with_a_rest(script: &mut Script) {
     script.title("derived: bytes behind the records of a table");
     let table = permanent(&paper());
@@ -164,8 +165,8 @@ fn many(script: &mut Script) {
     ask_into(script, &set(ended, at(255) + 31, &[1]), bytes_of(256), 1);
 }
 
-/// Adds too many records: with a table too short for its count, with two anchors at the end, and as many
-/// as there can be.
+/// Adds too many records: with a table too short for its count, with two anchors at the end, and as
+/// many as there can be.
 fn too_many(script: &mut Script) {
     script.title("derived: too many records and another fault");
     let table = permanent(&apart(401));
@@ -228,7 +229,7 @@ mod tests {
         }
     }
 
-    /// Of two faults the earlier is answered, of two anchors and the output the anchors.
+    /// Of two faults the answer is the earlier; two anchors come before the output.
     #[test]
     fn the_earlier_fault_wins() {
         let number = |table: &[u8], length| {
@@ -246,7 +247,7 @@ mod tests {
         assert_eq!(number(&sound(), bytes_of(2) - 1), 23);
     }
 
-    /// Of too many records and two anchors the anchors are answered.
+    /// Two anchors come before too many records.
     #[test]
     fn anchors_come_before_too_many() {
         let mut script = Script::default();

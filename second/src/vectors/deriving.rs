@@ -11,7 +11,7 @@ use crate::refusal::Refusal;
 use crate::tables::Product;
 
 impl Product {
-    /// Answers the letter that asks for it.
+    /// Returns the letter that asks for it.
     pub fn letter(self) -> char {
         match self {
             Product::Derived => 'e',
@@ -19,7 +19,7 @@ impl Product {
         }
     }
 
-    /// Makes it of a table, into an output; answers the words of the answer.
+    /// Makes it from a table, into an output; returns the words of the answer.
     pub fn make(self, table: &[u8], output: &mut [u8]) -> String {
         match self {
             Product::Derived => derived(derive(table, output)),
@@ -28,12 +28,12 @@ impl Product {
     }
 }
 
-/// Answers the words of derived baselines.
+/// Returns the words of derived baselines.
 fn derived(count: Result<usize, Refusal>) -> String {
     count.map_or_else(refused, |count| format!("derived {count}"))
 }
 
-/// Answers the words of a listing, which is an error where it does not fit.
+/// Returns the words of a listing, whose length is an error if it does not fit.
 fn listed(length: Result<usize, usize>) -> String {
     length.map_or_else(
         |needed| format!("needs {needed}"),
@@ -58,7 +58,8 @@ impl Script {
         self.ask(lines, line(product.letter(), &[]), answer);
     }
 
-    /// Asks for it into what the last one left in so many bytes, or after a title into a new output.
+    /// Asks for it into the last output if that has this length, or into a new one, as after a
+    /// title.
     pub fn ask_next(&mut self, product: Product, table: &[u8], length: usize) {
         let is_new = std::mem::take(&mut self.is_begun) || self.made.output.len() != length;
         let output = match is_new {
@@ -68,7 +69,7 @@ impl Script {
         self.ask_product(product, table, &output);
     }
 
-    /// Asks for it of every history of the themes, into so many bytes.
+    /// Asks for it of every history of the themes, into this many bytes.
     pub fn ask_themes(&mut self, product: Product, length: usize) {
         for theme in themes() {
             self.title(theme.title);
@@ -78,8 +79,8 @@ impl Script {
         }
     }
 
-    /// Asks for it of so many random histories, each a little other than the last, into one of some
-    /// numbers of bytes.
+    /// Asks for it of this many random histories, each slightly different from the last, into an
+    /// output of one of some lengths.
     pub fn ask_histories(&mut self, product: Product, seed: u64, count: usize, lengths: &[usize]) {
         let mut random = Random::new(seed);
         let mut history = History::new(&mut random);

@@ -106,7 +106,7 @@ const OF_TEMPDELTA: [Fault; 5] = [
 ];
 
 impl Case {
-    /// Answers the case with some flag bits set.
+    /// Returns the case with some flag bits set.
     fn flagged(mut self, bits: u8) -> Case {
         self.slice[FLAGS] |= bits;
         self
@@ -121,7 +121,7 @@ pub fn add(script: &mut Script) {
     }
 }
 
-/// Answers every spoiled slice of every kind, with the number expected.
+/// Returns every spoiled slice of every kind, with the number expected.
 pub fn spoiled_cases() -> Vec<(Case, u8)> {
     spoilable()
         .iter()
@@ -129,7 +129,7 @@ pub fn spoiled_cases() -> Vec<(Case, u8)> {
         .collect()
 }
 
-/// Answers the sound slices, each with the faults it can have, by rising number.
+/// Returns the sound slices, each with the faults it can have, in the order of their numbers.
 fn spoilable() -> Vec<(Case, Vec<Fault>)> {
     let uncancelled = Kind::ALL
         .into_iter()
@@ -140,7 +140,7 @@ fn spoilable() -> Vec<(Case, Vec<Fault>)> {
     uncancelled.chain(cancelled).collect()
 }
 
-/// Answers the faults of an uncancelled slice of a kind, by rising number.
+/// Returns the faults of an uncancelled slice of a kind, in the order of their numbers.
 fn faults_of(kind: Kind) -> Vec<Fault> {
     let own = match kind {
         Kind::Baseline => &OF_BASELINE[..],
@@ -150,7 +150,7 @@ fn faults_of(kind: Kind) -> Vec<Fault> {
     [&OF_ALL[..], &OF_UNCANCELLED, own].concat()
 }
 
-/// Answers a slice spoiled by each fault, each pair and chains, with the number expected.
+/// Returns a slice spoiled by each fault, each pair and chains, with the number expected.
 fn spoiled(base: &Case, faults: &[Fault]) -> Vec<(Case, u8)> {
     let mut cases = vec![];
     for first in faults {
@@ -164,7 +164,7 @@ fn spoiled(base: &Case, faults: &[Fault]) -> Vec<(Case, u8)> {
     cases
 }
 
-/// Answers a slice with one fault of every number from the given one on, the later spoiled first.
+/// Returns a slice with one fault of every number from the given one on, the later spoiled first.
 fn chain(base: &Case, faults: &[Fault], from: u8) -> Option<(Case, u8)> {
     let mut chosen: Vec<Fault> = faults
         .iter()
@@ -186,7 +186,7 @@ mod tests {
     use crate::refusal::number_of;
     use crate::slice::check;
 
-    /// Answers the number of the slice check, 0 where the slice is sound.
+    /// Returns the number of the slice check, 0 if the slice is sound.
     fn number(case: &Case) -> u8 {
         number_of(check(&case.slice, &case.feature, case.side))
     }

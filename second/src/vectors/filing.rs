@@ -1,4 +1,5 @@
-//! Arrivals at sound tables: every place, every answer, every correction and sequence that matters.
+//! Arrivals at sound tables: every position, every answer, every correction and sequence that
+//! matters.
 
 use super::Script;
 use crate::fixtures::{cases, choices, code, length, table_of, Case, FEATURE, RECORD};
@@ -7,7 +8,7 @@ use crate::record::{Kind, Side};
 use crate::supply::{kinds, EDGES};
 use crate::table::Sides;
 
-/// Correction numbers at the ends and about each change of length.
+/// Correction numbers at both ends, and around each change of length.
 const CORRECTIONS: [u16; 9] = [0, 1, 2, 255, 256, 32_767, 32_768, 65_534, 65_535];
 
 /// The keys of a permanent table.
@@ -38,7 +39,8 @@ pub fn add(script: &mut Script) {
     slices_with_faults(script);
 }
 
-/// Adds, for tables of each count, with and without room, every answer for keys on and beside theirs.
+/// Adds, for tables of each count, with and without room, every answer for keys on and beside
+/// theirs.
 fn every_place(script: &mut Script) {
     script.title("arrival: every place, every answer");
     for keys in [&PERMANENT[..], &TEMPORARY] {
@@ -58,7 +60,7 @@ fn every_place(script: &mut Script) {
     }
 }
 
-/// Answers the cases with correction 2.
+/// Returns the cases with correction 2.
 fn corrected(cases: &[Case]) -> Vec<Case> {
     cases
         .iter()
@@ -66,7 +68,7 @@ fn corrected(cases: &[Case]) -> Vec<Case> {
         .collect()
 }
 
-/// Answers a case before each key and after it.
+/// Returns a case before each key and after it.
 fn beside(keys: &[(Kind, u32)]) -> impl Iterator<Item = Case> + '_ {
     keys.iter().flat_map(|&(kind, sequence)| {
         [sequence - 1, sequence + 1].map(|sequence| Case::usual(kind).with_sequence(sequence))
@@ -172,7 +174,7 @@ fn cancelled_and_back(script: &mut Script) {
     }
 }
 
-/// Adds the two zeros of a double: they are other bytes, and so clash.
+/// Adds the two zeros of a double: their bytes differ, so they clash.
 fn zeros(script: &mut Script) {
     script.title("arrival: the two zeros clash");
     let zero = length(0, 1);

@@ -24,7 +24,7 @@ pub fn add(script: &mut Script) {
     script.ask_histories(Product::Listing, 23, HISTORIES, &[LENGTH]);
 }
 
-/// Asks for the listing of a table, into what the last ask left.
+/// Asks for the listing of a table, into the last output.
 fn ask(script: &mut Script, table: &[u8]) {
     script.ask_next(Product::Listing, table, LENGTH);
 }
@@ -59,7 +59,8 @@ fn lengths(script: &mut Script) {
     }
 }
 
-/// Adds listings of 255 and 256 records, and of one too many; and a table longer than the program takes.
+/// Adds listings of 255 and 256 records, and of one too many; and a table longer than the program
+/// takes.
 fn many(script: &mut Script) {
     script.title("listing: 255, 256 and 257 records");
     for cases in about_full() {

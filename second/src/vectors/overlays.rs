@@ -1,4 +1,5 @@
-//! One mention over another: nil and values, permanent and temporary, one after the other and at once.
+//! One mention over another: nil and values, permanent and temporary, one after the other and at
+//! once.
 
 use super::Script;
 use crate::fixtures::brief::{base, baseline, change, mention_only, opening, passing, SEQUENCES};

@@ -31,7 +31,7 @@ fn samples(script: &mut Script) {
         .for_each(|part| script.ask_part(part));
 }
 
-/// Answers one sound part of each form, with content in it where the form has any.
+/// Returns one sound part of each form, with content in it where the form has any.
 fn each_form() -> [Part; 6] {
     let [code, nil, number, length, point, ..] = mentions();
     [unmentioned(), nil, code, number, length, point]
@@ -61,7 +61,7 @@ fn details(script: &mut Script) {
     }
 }
 
-/// Adds each byte of a part of each form set to some values, and with some bits turned over.
+/// Adds each byte of a part of each form set to some values, and with some bits flipped.
 fn disturbed_bytes(script: &mut Script) {
     script.title("property: each byte disturbed");
     for base in each_form() {
@@ -176,7 +176,7 @@ fn random_contents(script: &mut Script) {
     }
 }
 
-/// Adds sound parts with one to three bits turned over.
+/// Adds sound parts with one to three bits flipped.
 fn flipped_parts(script: &mut Script) {
     script.title("property: sound parts with bits turned over");
     let mut random = Random::new(3);

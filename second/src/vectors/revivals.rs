@@ -1,4 +1,4 @@
-//! Records that are cancelled, come back and move, each correction brought to its table.
+//! Records that are cancelled, come back and move, each correction delivered to its table.
 
 use super::Script;
 use crate::fixtures::brief::{base, baseline, cancelling, change, closing, opening, passing};
@@ -42,8 +42,8 @@ fn roomy(cases: &[Case]) -> Tables {
     tables
 }
 
-/// Adds a record brought, cancelled, late, revived elsewhere and cancelled again, with a BASELINE or
-/// without.
+/// Adds a record brought, cancelled, late, revived elsewhere and cancelled again, with a BASELINE
+/// or without.
 fn alone(script: &mut Script, case: &Case, other: &Case) {
     let mut tables = Tables::empty(bytes_of(8));
     if case.head().kind != 1 {
@@ -55,7 +55,7 @@ fn alone(script: &mut Script, case: &Case, other: &Case) {
     }
 }
 
-/// Answers the slices of a record that goes and comes back.
+/// Returns the slices of a record that goes and comes back.
 fn life_of(case: &Case, other: &Case) -> [Case; 6] {
     [
         case.clone(),

@@ -21,7 +21,7 @@ fn even(count: usize) -> Vec<Case> {
     cases(&keys)
 }
 
-/// Makes a table of a length, full of sound records, that counts so many.
+/// Makes a table of a length, full of sound records, that counts this many.
 fn table(length: usize, count: u16) -> Vec<u8> {
     let fits = (length - HEADER_BYTES) / RECORD_BYTES;
     let rest = (length - HEADER_BYTES) % RECORD_BYTES;
@@ -40,7 +40,7 @@ fn ask(script: &mut Script, table: &[u8], sequences: &[u32]) {
     }
 }
 
-/// Adds rooms of 0 to 3 with parts of a record behind them, and counts from 0 to far over.
+/// Adds rooms of 0 to 3 with parts of a record after them, and counts from 0 to far over.
 fn small_rooms(script: &mut Script) {
     script.title("room: 0 to 3, with a rest");
     for room in 0..=3 {
@@ -55,7 +55,7 @@ fn small_rooms(script: &mut Script) {
     }
 }
 
-/// Adds rooms of 255 and 256 and places of more bytes than that, with counts about each.
+/// Adds rooms of 255 and 256 and longer buffers, with counts around each.
 fn large_rooms(script: &mut Script) {
     script.title("room: 255, 256, and more bytes");
     for (records, rest) in [

@@ -29,14 +29,14 @@ fn products(script: &mut Script) {
     }
 }
 
-/// Answers every three values.
+/// Returns every three values.
 fn triples() -> impl Iterator<Item = [u32; 3]> {
     VALUES
         .into_iter()
         .flat_map(|a| pairs().map(move |[b, c]| [a, b, c]))
 }
 
-/// Answers every two values.
+/// Returns every two values.
 fn pairs() -> impl Iterator<Item = [u32; 2]> {
     VALUES
         .into_iter()
