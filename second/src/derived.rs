@@ -300,7 +300,7 @@ mod tests {
         Some(count)
     }
 
-    /// Ten thousand random histories, at and beside every instant that matters.
+    /// Ten thousand random histories, at and next to every instant that matters.
     #[test]
     fn random_histories_are_read_back() {
         let mut random = Random::new(31);

@@ -27,7 +27,7 @@ impl raw::Answer {
 
 /// Calls the library for a new table.
 fn new_table(table: &mut [u8], side: u8, feature: &Feature) -> Reply {
-    // SAFETY: the pointers and the length are those of live parts that nobody else uses meanwhile;
+    // SAFETY: the pointers and the length are those of live parts that nothing else uses meanwhile;
     // the feature has the 16 bytes that the call reads.
     unsafe { raw::tsl_new_table(table.as_mut_ptr(), table.len(), side, feature) }.reply()
 }

@@ -56,7 +56,7 @@ struct Round<'a, P: Player> {
     output: Vec<u8>,
 }
 
-/// The small histories of a round that are asked about, and those of which baselines are derived.
+/// The small histories of a round that are asked about, and those that baselines are derived from.
 const HISTORIES: usize = 240;
 const DERIVED: usize = 40;
 
@@ -172,7 +172,7 @@ impl<'a, P: Player> Round<'a, P> {
         Ok(())
     }
 
-    /// Plays a whole delivery of many keys to a new table, damaged now and then.
+    /// Plays a whole delivery of many keys to a new table, damaged sometimes.
     fn delivery(&mut self) -> Result<(), P::Fault> {
         let (side, most) = (self.side(), self.most);
         let size = self.random.pick(&[4, 16, 40, most]);
@@ -235,7 +235,7 @@ impl<'a, P: Player> Round<'a, P> {
         Ok(())
     }
 
-    /// Plays the permanent state, the snapshot and each property, now and then into a new record.
+    /// Plays the permanent state, the snapshot and each property, sometimes into a new record.
     fn every_question(&mut self, asked: &Asked) -> Result<(), P::Fault> {
         if self.random.below(16) == 0 || self.record.len() != RECORD_BYTES {
             self.record = vec![self.random.byte(); RECORD_BYTES];
@@ -283,7 +283,7 @@ impl<'a, P: Player> Round<'a, P> {
         self.player.call(&mut self.output, &call)
     }
 
-    /// Plays derived baselines and the listing of a table, now and then into a new output.
+    /// Plays derived baselines and the listing of a table, sometimes into a new output.
     fn products(&mut self, permanent: &[u8], lengths: &[usize]) -> Result<(), P::Fault> {
         for product in [Product::Derived, Product::Listing] {
             if self.random.below(8) == 0 {

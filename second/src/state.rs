@@ -18,7 +18,8 @@ pub struct State {
     properties: [Option<Value>; PROPERTIES],
 }
 
-/// Returns the counted records of a kind whose period has the instant, by rising sequence number.
+/// Returns the counted records of a kind whose period has the instant, in the order of their
+/// sequence numbers.
 fn counted(table: &Table, kind: Kind, instant: Instant) -> impl Iterator<Item = &Record> {
     let is_counted = |record: &&Record| !record.head.is_cancelled();
     table

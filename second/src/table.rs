@@ -177,7 +177,7 @@ mod tests {
         fixtures::table(Side::Temporary, records, length, 0xa5)
     }
 
-    /// Makes three records in rising order.
+    /// Makes three records in ascending order.
     fn three() -> [Vec<u8>; 3] {
         [1, 2, 300].map(record)
     }

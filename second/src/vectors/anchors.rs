@@ -56,7 +56,7 @@ fn two_openings(script: &mut Script) {
     }
 }
 
-/// Adds a BASELINE beside one, two and three openings, before, in and after its period.
+/// Adds a BASELINE with one, two and three openings, before, in and after its period.
 fn baselines_and_openings(script: &mut Script) {
     script.title("anchors: a BASELINE beside openings");
     let anchor = from_to(1, 100, 200);

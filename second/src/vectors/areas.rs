@@ -113,7 +113,7 @@ fn bytes_beyond(script: &mut Script) {
     script.ask_area(&bytes);
 }
 
-/// Adds properties replaced at random, one after the other, now and then by a broken one.
+/// Adds properties replaced at random, one after the other, sometimes by a broken one.
 fn random_areas(script: &mut Script) {
     script.title("properties: random choices");
     let mut random = Random::new(4);

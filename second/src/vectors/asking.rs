@@ -78,7 +78,7 @@ impl Script {
         }
     }
 
-    /// Asks about the tables of some slices at and beside each of their times.
+    /// Asks about the tables of some slices at and next to each of their times.
     pub fn ask_history(&mut self, cases: &[Case], properties: &[u8]) {
         let tables = Tables::of(cases);
         self.ask_at(&tables, &tables.instants(), properties);

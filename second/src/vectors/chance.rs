@@ -51,7 +51,7 @@ fn flipped_slices(script: &mut Script) {
     }
 }
 
-/// Adds slices that drift: a field or two changed each time, and now and then a sound one again.
+/// Adds slices that drift: a field or two changed each time, and sometimes a sound one again.
 fn drifting_slices(script: &mut Script) {
     script.title("slice: random fields");
     let mut random = Random::new(8);

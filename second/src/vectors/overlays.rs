@@ -85,7 +85,7 @@ fn overlapping(script: &mut Script) {
     }
 }
 
-/// Adds periods that begin and end beside each other and beside those of the permanent table.
+/// Adds periods that begin and end next to each other and next to those of the permanent table.
 fn edges(script: &mut Script) {
     script.title("mentions: periods beside each other");
     let anchor = baseline(1, [100, 200, 100, NONE], 1);
