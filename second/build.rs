@@ -1,11 +1,11 @@
-//! Tells where the library is, where this program is built to link it.
+//! Tells the linker where the library is, when this program is built to link it.
 
 use std::path::{Path, PathBuf};
 
-/// The variable that names the folder of the archive, where it is another than that of `make lib`.
+/// The variable that names the folder of the archive, if it is not the one of `make lib`.
 const FOLDER: &str = "TIMESLICES_LIB_DIR";
 
-/// Writes the link lines under the feature `linked`, and nothing otherwise.
+/// Writes the link lines if the feature `linked` is on, and nothing otherwise.
 fn main() {
     println!("cargo::rerun-if-changed=build.rs");
     println!("cargo::rerun-if-env-changed={FOLDER}");
@@ -29,7 +29,8 @@ fn main() {
     }
 }
 
-/// Answers the folder of the archive: the one that is named, or that of `make lib` for the processor.
+/// Returns the folder of the archive: the one that is named, or that of `make lib` for the
+/// processor.
 fn folder() -> PathBuf {
     let variable = |name| std::env::var_os(name).filter(|value| !value.is_empty());
     if let Some(folder) = variable(FOLDER) {

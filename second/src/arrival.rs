@@ -1,4 +1,4 @@
-//! Arrivals: a slice in delivery comes to a table.
+//! Arrivals: a slice is delivered to a table.
 
 use crate::record::Record;
 use crate::refusal::{hold, Refusal};
@@ -17,7 +17,7 @@ pub enum Arrival {
 }
 
 impl fmt::Display for Arrival {
-    /// Writes the arrival as an answer line has it.
+    /// Writes the arrival as in an answer line.
     fn fmt(&self, out: &mut fmt::Formatter) -> fmt::Result {
         out.write_str(match self {
             Arrival::Added => "added",
@@ -28,7 +28,7 @@ impl fmt::Display for Arrival {
     }
 }
 
-/// Brings a slice to a table; a refused one changes no byte.
+/// Delivers a slice to a table; if it is refused, no byte changes.
 pub fn arrive(bytes: &mut [u8], slice: &[u8]) -> Result<Arrival, Refusal> {
     let mut table = Table::read(bytes, Sides::Both)?;
     slice::check(slice, &table.feature, table.side.byte())?;
@@ -41,7 +41,8 @@ pub fn arrive(bytes: &mut [u8], slice: &[u8]) -> Result<Arrival, Refusal> {
 }
 
 impl Table {
-    /// Files a sound record, or refuses it: 17 where it clashes with one, 18 where it has no room.
+    /// Puts a sound record into the table, or refuses it: 17 if it clashes with one, 18 if there is
+    /// no room.
     fn file(&mut self, record: Record) -> Result<Arrival, Refusal> {
         let is_full = self.records.len() == self.room;
         match self.records.entry(record.key()) {
@@ -61,7 +62,7 @@ impl Table {
     }
 }
 
-/// Answers what a record does to the stored one of the same key, or 17.
+/// Returns what a record does to the stored one with the same key, or 17.
 fn correct(stored: &Record, record: &Record) -> Result<Arrival, Refusal> {
     let (old, new) = (stored.head.correction, record.head.correction);
     if new > old {
@@ -70,7 +71,7 @@ fn correct(stored: &Record, record: &Record) -> Result<Arrival, Refusal> {
     if new < old {
         return Ok(Arrival::Superseded);
     }
-    // By their bytes: as values the two zeros of a double would be equal.
+    // Compares bytes: as values the two zeros of a double would be equal.
     hold(stored.write() == record.write(), Refusal::Clash)?;
     Ok(Arrival::Repeat)
 }
@@ -78,35 +79,41 @@ fn correct(stored: &Record, record: &Record) -> Result<Arrival, Refusal> {
 #[cfg(test)]
 mod tests {
     use super::*;
-    use crate::table::tests::{record, table, FEATURE};
+    use crate::fixtures::brief::{cancelling, passing};
+    use crate::fixtures::{self, length, Case, KIND};
+    use crate::layout::bytes_of;
+    use crate::record::{Side, NONE};
 
-    /// Makes the slice of a record.
-    fn slice(record: &[u8]) -> Vec<u8> {
-        [&FEATURE, record].concat()
+    /// Makes a TEMPDELTA from 120 on, under a correction.
+    fn delta(sequence: u32, correction: u16, code: u16) -> Case {
+        passing(sequence, 120, NONE, code).with_correction(correction)
     }
 
-    /// Makes a table of 5, 7 and 9, all with correction 4, and room for so many.
+    /// Makes a temporary table of some slices and room for this many records.
+    fn table(room: usize, cases: &[Case]) -> Vec<u8> {
+        let records: Vec<_> = cases.iter().map(Case::record).collect();
+        fixtures::table(Side::Temporary, &records, bytes_of(room), 0xa5)
+    }
+
+    /// Makes a table of 5, 7 and 9, all with correction 4, and room for this many records.
     fn three(room: usize) -> Vec<u8> {
-        table(
-            32 + room * 224,
-            &[5, 7, 9].map(|sequence| record(3, sequence, 4, 1)),
-        )
+        table(room, &[5, 7, 9].map(|sequence| delta(sequence, 4, 1)))
     }
 
-    /// Answers what an arrival says, and the table after it.
-    fn after(bytes: &[u8], record: &[u8]) -> (Result<Arrival, Refusal>, Vec<u8>) {
+    /// Returns the result of an arrival, and the table after it.
+    fn after(bytes: &[u8], case: &Case) -> (Result<Arrival, Refusal>, Vec<u8>) {
         let mut bytes = bytes.to_vec();
-        (arrive(&mut bytes, &slice(record)), bytes)
+        (arrive(&mut bytes, &case.slice), bytes)
     }
 
     /// "kind and sequence number are new; the record is put in its place".
     #[test]
     fn a_new_key_is_added_in_its_place() {
         for (sequence, place) in [(0, 0), (6, 1), (8, 2), (10, 3), (u32::MAX, 3)] {
-            let new = record(3, sequence, 0, 2);
-            let mut records = [5, 7, 9].map(|sequence| record(3, sequence, 4, 1)).to_vec();
-            records.insert(place, new.clone());
-            let expected = table(32 + 5 * 224, &records);
+            let new = delta(sequence, 0, 2);
+            let mut cases = [5, 7, 9].map(|sequence| delta(sequence, 4, 1)).to_vec();
+            cases.insert(place, new.clone());
+            let expected = table(5, &cases);
             assert_eq!(after(&three(5), &new), (Ok(Arrival::Added), expected));
         }
     }
@@ -115,9 +122,9 @@ mod tests {
     #[test]
     fn a_higher_correction_replaces() {
         for correction in [5, 255, 256, 65_535] {
-            let new = record(3, 7, correction, 2);
+            let new = delta(7, correction, 2);
             let mut expected = three(3);
-            expected[32 + 224..32 + 2 * 224].copy_from_slice(&new);
+            expected[32 + 224..32 + 2 * 224].copy_from_slice(&new.record());
             assert_eq!(after(&three(3), &new), (Ok(Arrival::Replaced), expected));
         }
     }
@@ -126,7 +133,7 @@ mod tests {
     #[test]
     fn a_lower_correction_is_superseded() {
         for (correction, code) in [(3, 1), (0, 2)] {
-            let old = record(3, 7, correction, code);
+            let old = delta(7, correction, code);
             assert_eq!(after(&three(3), &old), (Ok(Arrival::Superseded), three(3)));
         }
     }
@@ -134,28 +141,26 @@ mod tests {
     /// "equal correction, equal bytes", or else 17.
     #[test]
     fn an_equal_correction_is_a_repeat_or_a_clash() {
-        let (same, other) = (record(3, 7, 4, 1), record(3, 7, 4, 2));
+        let (same, other) = (delta(7, 4, 1), delta(7, 4, 2));
         assert_eq!(after(&three(3), &same), (Ok(Arrival::Repeat), three(3)));
         assert_eq!(after(&three(3), &other), (Err(Refusal::Clash), three(3)));
     }
 
-    /// Negative zero is other bytes.
+    /// Negative zero has different bytes.
     #[test]
     fn the_zeros_clash() {
-        let mut plus = record(3, 7, 4, 0);
-        plus[32..34].copy_from_slice(&[4, 1]);
-        let mut minus = plus.clone();
-        minus[40] = 0x80;
-        let bytes = table(32 + 224, &[plus]);
+        let [plus, minus] =
+            [0.0f64, -0.0].map(|zero| delta(7, 4, 0).with_part(0, &length(zero.to_bits(), 1)));
+        let bytes = table(1, &[plus]);
         assert_eq!(after(&bytes, &minus), (Err(Refusal::Clash), bytes.clone()));
     }
 
     /// "new kind and sequence, and the count equals the room".
     #[test]
     fn a_full_table_takes_no_new_key() {
-        let new = record(3, 6, 0, 1);
+        let new = delta(6, 0, 1);
         assert_eq!(after(&three(3), &new), (Err(Refusal::Full), three(3)));
-        let bytes = table(32, &[]);
+        let bytes = table(0, &[]);
         assert_eq!(after(&bytes, &new), (Err(Refusal::Full), bytes.clone()));
     }
 
@@ -165,10 +170,10 @@ mod tests {
         let mut bytes = three(3);
         assert_eq!(arrive(&mut bytes, &[]), Err(Refusal::Length));
         assert_eq!(arrive(&mut bytes[..31], &[]), Err(Refusal::Short));
-        let mut foreign = slice(&record(3, 7, 4, 2));
-        foreign[0] = 8;
-        assert_eq!(arrive(&mut bytes, &foreign), Err(Refusal::Feature));
-        assert_eq!(after(&bytes, &record(1, 7, 4, 2)).0, Err(Refusal::Kind));
+        let foreign = delta(7, 4, 2).with_byte(0, 8);
+        assert_eq!(arrive(&mut bytes, &foreign.slice), Err(Refusal::Feature));
+        let baseline = delta(7, 4, 2).with_byte(KIND, 1);
+        assert_eq!(arrive(&mut bytes, &baseline.slice), Err(Refusal::Kind));
         bytes[7] = 4;
         assert_eq!(arrive(&mut bytes, &[]), Err(Refusal::Count));
     }
@@ -176,16 +181,9 @@ mod tests {
     /// A cancelled record stays, and "a higher correction may bring the change back".
     #[test]
     fn a_cancelled_record_is_stored_as_any_other() {
-        let mut cancelled = record(3, 7, 5, 0);
-        cancelled[1] = 1;
-        cancelled[8..24].fill(255);
-        cancelled[32] = 0;
-        let (answer, bytes) = after(&three(3), &cancelled);
+        let (answer, bytes) = after(&three(3), &cancelling(&delta(7, 4, 1), 5));
         assert_eq!(answer, Ok(Arrival::Replaced));
-        assert_eq!(
-            after(&bytes, &record(3, 7, 4, 1)).0,
-            Ok(Arrival::Superseded)
-        );
-        assert_eq!(after(&bytes, &record(3, 7, 6, 1)).0, Ok(Arrival::Replaced));
+        assert_eq!(after(&bytes, &delta(7, 4, 1)).0, Ok(Arrival::Superseded));
+        assert_eq!(after(&bytes, &delta(7, 6, 1)).0, Ok(Arrival::Replaced));
     }
 }

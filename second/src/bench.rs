@@ -1,14 +1,13 @@
-//! Measures a library against the plain programs of this one, on the same bytes in one run, and prints one
-//! table.
+//! Measures a library against plain programs, on the same bytes in one run, and prints one table.
 
 mod derived;
 mod questions;
 mod scenes;
 
+use crate::fixtures::FEATURE;
+use crate::layout::RECORD_BYTES;
 use crate::library::{Library, Reply, BY_STEPS, BY_SWEEPS, ON_HEAP, PLAIN};
 use crate::listing::MOST_BYTES;
-use crate::record::RECORD_BYTES;
-use crate::vectors::sample::FEATURE;
 use std::fmt;
 use std::hint::black_box;
 use std::time::{Duration, Instant};
@@ -16,15 +15,17 @@ use std::time::{Duration, Instant};
 /// The numbers of records that are measured.
 const COUNTS: [usize; 3] = [16, 64, 256];
 
-/// How many records the tables have together that are called in turn, and how long at a time: as
-/// many for each count, so that neither caches nor branches are learnt better for small tables.
+/// How many records all tables of a scene have together, and how long a measurement takes. The
+/// number is the same for each count, so that caches and branch prediction do not favour small
+/// tables.
 const RECORDS: usize = 2048;
 const TIME: Duration = Duration::from_micros(1500);
 
 /// The bytes that hold every listing.
 const TEXT: usize = 10_771;
 
-/// The plain programs: the one that the library is held against, and those that derive in other ways.
+/// The plain programs: the one that the library is compared with, and those that derive in other
+/// ways.
 const PLAINS: [(&str, &Library); 4] = [
     ("", &PLAIN),
     ("; plain in steps", &BY_STEPS),
@@ -37,7 +38,7 @@ const HEAD: &str = "\
 | call                                          | records |   ours ns |  plain ns | ours/plain | ours ns a record | ours/pass |
 |-----------------------------------------------|--------:|----------:|----------:|-----------:|-----------------:|----------:|";
 
-/// What is called.
+/// The call to measure.
 #[derive(Clone)]
 enum Call {
     NewTable,
@@ -54,7 +55,7 @@ enum Call {
     Listing,
 }
 
-/// A table, the call that is made on it, and what it answers.
+/// A table, a call on it, and the expected reply.
 #[derive(Clone)]
 struct Use {
     table: Vec<u8>,
@@ -62,8 +63,8 @@ struct Use {
     right: Reply,
 }
 
-/// One thing to be measured, and how often the calls can be made before the tables have to be as they
-/// were.
+/// One thing to measure, and how often its calls can be made before the tables must be copied
+/// again.
 struct Scene {
     name: String,
     records: usize,
@@ -71,8 +72,8 @@ struct Scene {
     uses: Vec<Use>,
 }
 
-/// A line of the table: nanoseconds a call, of the library, of a plain program and of one pass over the
-/// tables that the call reads, and how many tables these are, one after the other.
+/// A line of the table: nanoseconds per call, for the library, a plain program and one pass over
+/// the tables that the call reads, and the number of these tables.
 struct Row {
     call: String,
     records: usize,
@@ -82,8 +83,8 @@ struct Row {
     pass: f64,
 }
 
-/// Measures everything so many times and prints the medians; answers whether every call answered
-/// as it should.
+/// Measures everything this many times and prints the medians; returns whether every reply was as
+/// expected.
 pub fn run(library: &Library, rounds: usize) -> bool {
     println!("Medians of {rounds} rounds, the library and the plain programs by turns.\n\n{HEAD}");
     let sets = COUNTS.map(scenes::all);
@@ -102,7 +103,7 @@ pub fn run(library: &Library, rounds: usize) -> bool {
 }
 
 impl Use {
-    /// Makes the call once, with an output for what it writes beside the table.
+    /// Makes the call once, with a buffer for what it writes.
     fn call(&self, library: &Library, table: &mut [u8], output: &mut [u8]) -> Reply {
         let record = &mut output[..RECORD_BYTES];
         match &self.call {
@@ -127,7 +128,8 @@ impl Use {
         }
     }
 
-    /// Answers the sum of all bytes of the tables that the call reads, each time that it does.
+    /// Returns the sum of all bytes of the tables that the call reads, once for each time it reads
+    /// them.
     fn pass(&self, table: &[u8]) -> u64 {
         match &self.call {
             Call::Snapshot(temporary, _) | Call::Property(temporary, ..) => {
@@ -140,7 +142,7 @@ impl Use {
         }
     }
 
-    /// Answers how many tables the call reads, one after the other.
+    /// Returns how many tables the call reads; a table that is read again counts again.
     fn tables(&self) -> usize {
         match &self.call {
             Call::NewTable => 0,
@@ -152,7 +154,7 @@ impl Use {
 }
 
 impl Scene {
-    /// Answers the plain programs, each with what the line says of it: those that do not do the same.
+    /// Returns the plain programs, each with the text that its line adds to the name.
     fn plains(&self) -> &'static [(&'static str, &'static Library)] {
         match self.uses[0].call {
             Call::Derive | Call::Listing => &PLAINS,
@@ -160,20 +162,20 @@ impl Scene {
         }
     }
 
-    /// Answers whether a library and the plain programs answer what is expected.
+    /// Returns whether a library and the plain programs reply as expected.
     fn is_right_for_all(&self, library: &Library) -> bool {
         let mut plains = self.plains().iter();
         self.is_right(library) && plains.all(|(_, plain)| self.is_right(plain))
     }
 
-    /// Answers whether a library answers what is expected.
+    /// Returns whether a library replies as expected.
     fn is_right(&self, library: &Library) -> bool {
         let mut output = vec![0; MOST_BYTES];
         let mut reply = |one: &Use| one.call(library, &mut one.table.clone(), &mut output);
         self.uses.iter().all(|one| reply(one) == one.right)
     }
 
-    /// Answers the nanoseconds that one use of a table takes, the copying of tables left out.
+    /// Returns the nanoseconds that one use of a table takes, without the copying of tables.
     fn time(&self, tables: &mut [Vec<u8>], mut used: impl FnMut(&Use, &mut [u8])) -> f64 {
         let (mut spent, mut calls) = (Duration::ZERO, 0);
         while spent < TIME {
@@ -192,8 +194,8 @@ impl Scene {
         spent.as_nanos() as f64 / calls as f64
     }
 
-    /// Measures the library, the plain programs and the pass by turns; answers a line with the medians for
-    /// each plain program.
+    /// Measures the library, the plain programs and the pass by turns; returns a line with the
+    /// medians for each plain program.
     fn measure(&self, library: &Library, rounds: usize) -> Vec<Row> {
         let mut tables: Vec<Vec<u8>> = self.uses.iter().map(|one| one.table.clone()).collect();
         let (mut output, plains) = (vec![0; MOST_BYTES], self.plains());
@@ -216,7 +218,7 @@ impl Scene {
         self.rows(&times.collect::<Vec<_>>(), pass)
     }
 
-    /// Answers the lines of the times of the library and the plain programs, and of a pass.
+    /// Returns the lines for the times of the library and the plain programs, and of a pass.
     fn rows(&self, times: &[f64], pass: f64) -> Vec<Row> {
         let row = |(&(other, _), &plain): (&(&str, _), &f64)| Row {
             call: format!("{}{other}", self.name),
@@ -249,12 +251,12 @@ impl fmt::Display for Row {
     }
 }
 
-/// Answers the sum of all bytes.
+/// Returns the sum of all bytes.
 fn sum(bytes: &[u8]) -> u64 {
     bytes.iter().map(|&byte| u64::from(byte)).sum()
 }
 
-/// Answers the middle one of some times.
+/// Returns the middle one of some times.
 fn median(mut times: Vec<f64>) -> f64 {
     times.sort_by(f64::total_cmp);
     times[times.len() / 2]
@@ -264,7 +266,7 @@ fn median(mut times: Vec<f64>) -> f64 {
 mod tests {
     use super::*;
 
-    /// The plain program measured against itself, once; a wrong answer is told.
+    /// The plain program measured against itself, once; a wrong reply is reported.
     #[test]
     fn everything_is_measured() {
         assert!(run(&PLAIN, 1));

@@ -1,49 +1,50 @@
-//! Plays calls to a library and to this program, and holds the answer and every lent byte of the one
-//! against the other's.
+//! Makes calls to a library and to this program, and compares the replies and every byte of the
+//! buffers.
 
 use crate::arrival;
 use crate::derived;
+use crate::layout::MOST_RECORDS;
 use crate::library::{Library, Reply};
 use crate::listing;
 use crate::play::further::{further, Judge};
 use crate::play::{round, Call, Player};
 use crate::question;
-use crate::table::{self, Sides, MOST_RECORDS};
+use crate::table::{self, Sides};
 use crate::tables::{Product, Question, Tables};
 use crate::tally::{Answer, Tally};
 use crate::vectors::format::{fill_lines, instant_line, line, output_line, record_line, EXCHANGE};
 use std::fmt;
 use std::time::{Duration, Instant};
 
-/// The bytes on each side of a lent part, which a call has no business with.
+/// The guard bytes on each side of a buffer, which no call may touch.
 const GUARD: usize = 64;
 const GUARD_BYTE: u8 = 0x5a;
 
-/// How long to go on.
+/// When to stop.
 #[derive(Clone, Copy, Debug, PartialEq)]
 pub enum Limit {
     Rounds(u64),
     Seconds(u64),
 }
 
-/// A part that is lent, with guard bytes on both sides.
-struct Lent {
+/// A buffer for a call, with guard bytes on both sides.
+struct Guarded {
     whole: Vec<u8>,
     start: usize,
     length: usize,
 }
 
-/// A call that the library answered, or left the bytes, otherwise than this program: of the place that
-/// the call may change, and of what it is handed beside it, the first byte that is not as it should be.
+/// A call after which the library's reply or bytes differ from this program's: the first wrong byte
+/// of the buffer that the call may change, and of each buffer that it only reads.
 pub struct Difference {
     lines: Vec<String>,
     right: Reply,
     reply: Reply,
-    place: Option<isize>,
+    buffer: Option<isize>,
     handed: Vec<Option<isize>>,
 }
 
-/// A library, and how its calls were answered so far.
+/// A library, and the count of its answers so far.
 pub struct Comparison<'a> {
     library: &'a Library,
     tally: &'a mut Tally,
@@ -51,7 +52,7 @@ pub struct Comparison<'a> {
 }
 
 impl Limit {
-    /// Answers the limit that a word names: a number of rounds, or of seconds with an `s` behind it.
+    /// Returns the limit that a word names: a number of rounds, or of seconds followed by `s`.
     pub fn of(word: &str) -> Option<Limit> {
         match word.strip_suffix('s') {
             Some(seconds) => seconds.parse().ok().map(Limit::Seconds),
@@ -59,7 +60,7 @@ impl Limit {
         }
     }
 
-    /// Answers whether so many rounds in such a time are enough.
+    /// Returns whether this many rounds, in this time, are enough.
     fn is_reached(self, rounds: u64, time: Duration) -> bool {
         match self {
             Limit::Rounds(limit) => rounds >= limit,
@@ -68,7 +69,7 @@ impl Limit {
     }
 }
 
-/// Plays rounds and prints how they go; answers whether no call made a difference.
+/// Plays rounds and prints the progress; returns whether there was no difference.
 pub fn run(library: &Library, limit: Limit, seed: u64) -> bool {
     println!("seed {seed}");
     let (start, mut told) = (Instant::now(), 0);
@@ -91,7 +92,7 @@ pub fn run(library: &Library, limit: Limit, seed: u64) -> bool {
     true
 }
 
-/// Plays one round to a library and to this program; answers the first difference.
+/// Plays one round with a library and with this program; returns the first difference.
 fn play(library: &Library, seed: u64, tally: &mut Tally) -> Result<(), Box<Difference>> {
     let mut comparison = Comparison::new(library, tally);
     round(&mut comparison, seed, MOST_RECORDS)?;
@@ -99,7 +100,7 @@ fn play(library: &Library, seed: u64, tally: &mut Tally) -> Result<(), Box<Diffe
 }
 
 impl<'a> Comparison<'a> {
-    /// Answers the comparison of a library, whose answers are counted.
+    /// Returns the comparison of a library, whose answers are counted.
     pub fn new(library: &'a Library, tally: &'a mut Tally) -> Comparison<'a> {
         Comparison {
             library,
@@ -112,29 +113,30 @@ impl<'a> Comparison<'a> {
 impl Player for Comparison<'_> {
     type Fault = Box<Difference>;
 
-    /// Puts a call to the library and to this program; the place becomes what it is after it.
-    fn call(&mut self, place: &mut Vec<u8>, call: &Call) -> Result<(), Box<Difference>> {
-        let before = place.clone();
-        let right = call.answer(place);
+    /// Makes a call to the library and to this program, and leaves the buffer as this program left
+    /// it.
+    fn call(&mut self, buffer: &mut Vec<u8>, call: &Call) -> Result<(), Box<Difference>> {
+        let before = buffer.clone();
+        let right = call.answer(buffer);
         self.calls += 1;
-        let mut lent = Lent::new(&before, GUARD + self.calls % 8);
+        let mut guarded = Guarded::new(&before, GUARD + self.calls % 8);
         let shifts = [self.calls / 8 % 8, self.calls / 64 % 8];
-        let handed: Vec<Lent> = call
+        let handed: Vec<Guarded> = call
             .handed()
             .iter()
             .zip(shifts)
-            .map(|(bytes, shift)| Lent::new(bytes, GUARD + shift))
+            .map(|(bytes, shift)| Guarded::new(bytes, GUARD + shift))
             .collect();
-        let reply = call.put(self.library, lent.part_mut(), &handed);
-        self.tally.count(call.counted(right, place));
+        let reply = call.put(self.library, guarded.bytes_mut(), &handed);
+        self.tally.count(call.counted(right, buffer));
         let handed = handed.iter().zip(call.handed());
         let difference = Difference {
             lines: vec![],
             right,
             reply,
-            place: lent.first_other(place),
+            buffer: guarded.first_other(buffer),
             handed: handed
-                .map(|(lent, bytes)| lent.first_other(bytes))
+                .map(|(guarded, bytes)| guarded.first_other(bytes))
                 .collect(),
         };
         if difference.is_none() {
@@ -149,10 +151,10 @@ impl Player for Comparison<'_> {
 }
 
 impl Judge for Comparison<'_> {
-    /// Holds a table that came out, of the library and of this program alike, against the right one.
+    /// Compares a table, on which the library and this program agree, with the expected one.
     fn hold(&mut self, table: &[u8], right: &[u8]) -> Result<(), Box<Difference>> {
-        let place = Lent::new(table, GUARD).first_other(right);
-        if place.is_none() {
+        let buffer = Guarded::new(table, GUARD).first_other(right);
+        if buffer.is_none() {
             return Ok(());
         }
         let (came, should) = ("came out:".to_string(), "should be:".to_string());
@@ -166,21 +168,21 @@ impl Judge for Comparison<'_> {
             .concat(),
             right: Reply::new(1, 0),
             reply: Reply::new(1, 0),
-            place,
+            buffer,
             handed: vec![],
         }))
     }
 }
 
 impl Call<'_> {
-    /// Answers what a reply is counted as, that left the place so.
-    fn counted(&self, reply: Reply, place: &[u8]) -> Answer {
+    /// Returns the answer that a reply counts as, from the buffer after the call.
+    fn counted(&self, reply: Reply, buffer: &[u8]) -> Answer {
         let is_sound = |tables: &Tables| table::check(&tables.permanent, Sides::Permanent).is_ok();
         let is_temporary = match self {
             Call::Ask { tables, .. } => matches!(reply.number, 1..=7) && is_sound(tables),
             _ => false,
         };
-        let reply = match place.strip_prefix(b"refused ") {
+        let reply = match buffer.strip_prefix(b"refused ") {
             Some(rest) if self.letter() == 'y' && reply.kind == 1 => {
                 let digits = &rest[..reply.number as usize - "refused \n".len()];
                 let number = digits
@@ -193,7 +195,7 @@ impl Call<'_> {
         Answer::of(self.letter(), reply, is_temporary)
     }
 
-    /// Answers the letter that asks this in the vectors.
+    /// Returns the letter that asks this in the vectors.
     fn letter(&self) -> char {
         match self {
             Call::Create { .. } => 'm',
@@ -207,7 +209,7 @@ impl Call<'_> {
         }
     }
 
-    /// Answers the bytes that the call is handed beside the place that it may change.
+    /// Returns the bytes that the call only reads.
     fn handed(&self) -> Vec<&[u8]> {
         match self {
             Call::Create { feature, .. } => vec![&feature[..]],
@@ -222,9 +224,9 @@ impl Call<'_> {
         }
     }
 
-    /// Answers the lines that ask this in the vectors, of a place that held these bytes.
-    fn lines(&self, place: &[u8]) -> Vec<String> {
-        let table = fill_lines(place, 0);
+    /// Returns the lines that ask this in the vectors, with the buffer as it was before the call.
+    fn lines(&self, buffer: &[u8]) -> Vec<String> {
+        let table = fill_lines(buffer, 0);
         match self {
             Call::Create { side, feature } => {
                 [table, vec![line('f', &feature[..]), line('m', &[*side])]].concat()
@@ -239,60 +241,60 @@ impl Call<'_> {
                     Question::Property(number) => &[*number],
                     _ => &[],
                 };
-                let value = place.first().copied().unwrap_or(0);
+                let value = buffer.first().copied().unwrap_or(0);
                 let asking = vec![
                     instant_line(*instant),
-                    record_line(place.len(), value),
+                    record_line(buffer.len(), value),
                     line(self.letter(), property),
                 ];
                 [tables.lines(), asking].concat()
             }
             Call::Make { permanent, .. } => {
-                let value = place.first().copied().unwrap_or(0);
-                let output = output_line(place.len(), value);
+                let value = buffer.first().copied().unwrap_or(0);
+                let output = output_line(buffer.len(), value);
                 let asking = vec![output, line(self.letter(), &[])];
                 [fill_lines(permanent, 0), asking].concat()
             }
         }
     }
 
-    /// Does the call to a place by this program's own rules.
-    fn answer(&self, place: &mut [u8]) -> Reply {
+    /// Makes the call by this program's own rules.
+    fn answer(&self, buffer: &mut [u8]) -> Reply {
         match self {
             Call::Create { side, feature } => {
-                Reply::of_writing(table::create(place, *side, feature))
+                Reply::of_writing(table::create(buffer, *side, feature))
             }
-            Call::Arrive { slice } => Reply::of_arrival(arrival::arrive(place, slice)),
+            Call::Arrive { slice } => Reply::of_arrival(arrival::arrive(buffer, slice)),
             Call::Ask {
                 tables,
                 instant,
                 question,
-            } => tables.answer(*instant, *question, place),
-            Call::Make { permanent, product } => product.answer(permanent, place),
+            } => tables.answer(*instant, *question, buffer),
+            Call::Make { permanent, product } => product.answer(permanent, buffer),
         }
     }
 
-    /// Puts the call to a library, with what it is handed in places of their own.
-    fn put(&self, library: &Library, place: &mut [u8], handed: &[Lent]) -> Reply {
-        let handed: Vec<&[u8]> = handed.iter().map(Lent::part).collect();
+    /// Makes the call to a library, with guarded copies of the bytes that it only reads.
+    fn put(&self, library: &Library, buffer: &mut [u8], handed: &[Guarded]) -> Reply {
+        let handed: Vec<&[u8]> = handed.iter().map(Guarded::bytes).collect();
         match self {
             Call::Create { side, .. } => {
                 let feature = handed[0].try_into().expect("a feature is handed");
-                (library.new_table)(place, *side, feature)
+                (library.new_table)(buffer, *side, feature)
             }
-            Call::Arrive { .. } => (library.arrive)(place, handed[0]),
+            Call::Arrive { .. } => (library.arrive)(buffer, handed[0]),
             Call::Ask {
                 instant, question, ..
             } => match *question {
-                Question::State => (library.permanent_state)(handed[0], *instant, place),
-                Question::Snapshot => (library.snapshot)(handed[0], handed[1], *instant, place),
+                Question::State => (library.permanent_state)(handed[0], *instant, buffer),
+                Question::Snapshot => (library.snapshot)(handed[0], handed[1], *instant, buffer),
                 Question::Property(number) => {
                     (library.property)(handed[0], handed[1], *instant, number)
                 }
             },
             Call::Make { product, .. } => match product {
-                Product::Derived => (library.derive)(handed[0], place),
-                Product::Listing => (library.listing)(handed[0], place),
+                Product::Derived => (library.derive)(handed[0], buffer),
+                Product::Listing => (library.listing)(handed[0], buffer),
             },
         }
     }
@@ -309,7 +311,7 @@ impl Product {
 }
 
 impl Tables {
-    /// Answers the lines that make the two tables in the vectors.
+    /// Returns the lines that set the two tables in the vectors.
     fn lines(&self) -> Vec<String> {
         let exchange = vec![EXCHANGE.to_string()];
         let (table, other) = (
@@ -337,55 +339,54 @@ impl Tables {
     }
 }
 
-impl Lent {
-    /// Lends a copy of some bytes, so many guard bytes before them.
-    fn new(bytes: &[u8], start: usize) -> Lent {
+impl Guarded {
+    /// Makes a buffer with a copy of some bytes, and this many guard bytes before them.
+    fn new(bytes: &[u8], start: usize) -> Guarded {
         let mut whole = vec![GUARD_BYTE; start + bytes.len() + GUARD];
         whole[start..start + bytes.len()].copy_from_slice(bytes);
         let length = bytes.len();
-        Lent {
+        Guarded {
             whole,
             start,
             length,
         }
     }
 
-    /// Answers the lent part.
-    fn part(&self) -> &[u8] {
+    /// Returns the bytes of the buffer.
+    fn bytes(&self) -> &[u8] {
         &self.whole[self.start..self.start + self.length]
     }
 
-    /// Answers the lent part, to be changed.
-    fn part_mut(&mut self) -> &mut [u8] {
+    /// Returns the bytes of the buffer, for changing them.
+    fn bytes_mut(&mut self) -> &mut [u8] {
         &mut self.whole[self.start..self.start + self.length]
     }
 
-    /// Answers the offset in the lent part, or before or behind it, of the first byte that is not
-    /// as it should be.
+    /// Returns the offset, in the buffer or its guards, of the first byte that is not as expected.
     fn first_other(&self, bytes: &[u8]) -> Option<isize> {
-        let right = Lent::new(bytes, self.start);
+        let right = Guarded::new(bytes, self.start);
         if self.whole == right.whole {
             return None;
         }
-        let mut places = 0..self.whole.len();
-        let place = places.find(|&place| self.whole[place] != right.whole[place]);
-        place.map(|place| place as isize - self.start as isize)
+        let mut offsets = 0..self.whole.len();
+        let other = offsets.find(|&offset| self.whole[offset] != right.whole[offset]);
+        other.map(|offset| offset as isize - self.start as isize)
     }
 }
 
 impl Difference {
-    /// Answers whether there is none.
+    /// Returns whether there is none.
     fn is_none(&self) -> bool {
-        self.reply == self.right && self.place.is_none() && self.handed.iter().all(Option::is_none)
+        self.reply == self.right && self.buffer.is_none() && self.handed.iter().all(Option::is_none)
     }
 }
 
 impl fmt::Display for Difference {
-    /// Writes the call as the vectors have it, both answers, and where the bytes differ.
+    /// Writes the call as lines of the vectors, both answers, and where the bytes differ.
     fn fmt(&self, out: &mut fmt::Formatter) -> fmt::Result {
         writeln!(out, "{}", self.lines.join("\n"))?;
         writeln!(out, "expected {:?}, got {:?}", self.right, self.reply)?;
-        if let Some(byte) = self.place {
+        if let Some(byte) = self.buffer {
             writeln!(
                 out,
                 "table, record or output: byte {byte} is not as expected"
@@ -405,13 +406,13 @@ mod tests {
     use super::*;
     use crate::library::{BY_STEPS, BY_SWEEPS, ON_HEAP, PLAIN};
 
-    /// Answers whether some rounds with a library go without a difference.
+    /// Returns whether some rounds with a library show no difference.
     fn is_same(library: &Library) -> bool {
         let mut tally = Tally::default();
         (0..6).all(|seed| play(library, seed, &mut tally).is_ok())
     }
 
-    /// Plays some rounds to a library, which make no difference; answers how they were answered.
+    /// Plays some rounds with a library without a difference; returns the count of its answers.
     fn same(library: &Library) -> Tally {
         let mut tally = Tally::default();
         for seed in 100..110 {
@@ -422,8 +423,8 @@ mod tests {
         tally
     }
 
-    /// The plain program answers as the decoded one, in each way that it derives, and every answer comes
-    /// up.
+    /// The plain program gives the same replies as the decoded one, in each way that it derives,
+    /// and every answer occurs.
     #[test]
     fn the_plain_program_is_the_same() {
         let tally = same(&PLAIN);
@@ -433,17 +434,17 @@ mod tests {
         assert_eq!(tally.unseen(), []);
     }
 
-    /// A table that is not the right one is told, by the first byte that is another.
+    /// A table that is not the expected one is reported, with the first byte that differs.
     #[test]
     fn other_tables_are_found() {
         let mut tally = Tally::default();
         let mut comparison = Comparison::new(&PLAIN, &mut tally);
         assert!(comparison.hold(&[1, 2, 3], &[1, 2, 3]).is_ok());
         let difference = comparison.hold(&[1, 2, 3], &[1, 2, 4]).unwrap_err();
-        assert_eq!(difference.place, Some(2));
+        assert_eq!(difference.buffer, Some(2));
     }
 
-    /// A change not made, a wrong number and a byte too many are each found.
+    /// A missing change, a wrong number and a byte too many are each found.
     #[test]
     fn wrong_libraries_are_found() {
         let forgetful = Library {
@@ -472,7 +473,8 @@ mod tests {
         assert!(![forgetful, miscounting, untidy].iter().any(is_same));
     }
 
-    /// A snapshot of another instant, a part of the other table and a record that is touched are found.
+    /// A snapshot of another instant, a part of the other table and a record that is touched are
+    /// found.
     #[test]
     fn wrong_answers_about_an_instant_are_found() {
         let untimely = Library {
@@ -530,14 +532,14 @@ mod tests {
         assert!(![miscounting, hasty, careless].iter().any(is_same));
     }
 
-    /// A byte beside the lent part is found.
+    /// A change to a guard byte is found.
     #[test]
     fn guard_bytes_are_held() {
-        let mut lent = Lent::new(&[1, 2, 3], GUARD);
-        assert_eq!(lent.first_other(&[1, 2, 3]), None);
-        lent.part_mut()[1] = 9;
-        assert_eq!(lent.first_other(&[1, 2, 3]), Some(1));
-        let mut beside = Lent::new(&[1, 2, 3], GUARD);
+        let mut guarded = Guarded::new(&[1, 2, 3], GUARD);
+        assert_eq!(guarded.first_other(&[1, 2, 3]), None);
+        guarded.bytes_mut()[1] = 9;
+        assert_eq!(guarded.first_other(&[1, 2, 3]), Some(1));
+        let mut beside = Guarded::new(&[1, 2, 3], GUARD);
         beside.whole[GUARD + 3] = 0;
         assert_eq!(beside.first_other(&[1, 2, 3]), Some(3));
     }

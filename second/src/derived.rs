@@ -1,13 +1,14 @@
 //! Derived baselines: from one change instant to the next, the permanent state as a BASELINE.
 
-use crate::record::{Instant, Kind, Record, Sequence, Side, Span, RECORD_BYTES};
+use crate::layout::{bytes_of, MOST_RECORDS};
+use crate::record::{Instant, Kind, Record, Sequence, Side, Span};
 use crate::refusal::{hold, Refusal};
 use crate::slice;
 use crate::state::{lasting, State};
-use crate::table::{Feature, Sides, Table, HEADER_BYTES, MOST_RECORDS};
+use crate::table::{Feature, Sides, Table};
 
-/// Writes the derived baselines of a permanent table and answers how many they are; a refused call
-/// changes no byte, and no call one beyond the result.
+/// Writes the derived baselines of a permanent table and returns their number. If the call is
+/// refused, no byte changes; bytes after the result never change.
 pub fn derive(permanent: &[u8], output: &mut [u8]) -> Result<usize, Refusal> {
     let table = Table::read(permanent, Sides::Permanent)?;
     let derived = baselines(&table)?;
@@ -26,18 +27,18 @@ pub fn derive(permanent: &[u8], output: &mut [u8]) -> Result<usize, Refusal> {
     Ok(count)
 }
 
-/// Answers whether a table of so many records is one, and has its place in so many bytes.
+/// Returns whether a table may have this many records, and fits into this many bytes.
 fn fits(records: usize, bytes: usize) -> bool {
-    records <= MOST_RECORDS && HEADER_BYTES + records * RECORD_BYTES <= bytes
+    records <= MOST_RECORDS && bytes_of(records) <= bytes
 }
 
-/// Answers 24 where a record is not sound as a slice of the feature on its way to the permanent side.
+/// Returns 24 if a record is not sound as a slice of the feature, delivered to the permanent side.
 fn check(record: &Record, feature: &Feature) -> Result<(), Refusal> {
     let slice = [&feature[..], &record.write()].concat();
     slice::check(&slice, feature, Side::Permanent.byte()).map_err(|_| Refusal::Derived)
 }
 
-/// Answers the change instants of a permanent table, rising.
+/// Returns the change instants of a permanent table in ascending order.
 pub fn change_instants(table: &Table) -> Vec<Instant> {
     let is_counted = |record: &&Record| !record.head.is_cancelled();
     let counted = table.records.values().filter(is_counted);
@@ -47,7 +48,7 @@ pub fn change_instants(table: &Table) -> Vec<Instant> {
     instants
 }
 
-/// Answers the instants at which a counted record may change the state, where they are given.
+/// Returns the instants at which a counted record may change the state, if they are given.
 fn changes(record: &Record) -> [Option<Instant>; 3] {
     let (period, life) = (record.head.period, record.head.life);
     if record.head.kind == Kind::Baseline.byte() {
@@ -57,7 +58,7 @@ fn changes(record: &Record) -> [Option<Instant>; 3] {
     }
 }
 
-/// Answers the permanent state at an instant, if there is one, or 21.
+/// Returns the permanent state at an instant, if there is one, or 21.
 fn state(table: &Table, instant: Instant) -> Result<Option<State>, Refusal> {
     match lasting(table, instant) {
         Ok(applied) => Ok(Some(State::after(&applied))),
@@ -66,7 +67,7 @@ fn state(table: &Table, instant: Instant) -> Result<Option<State>, Refusal> {
     }
 }
 
-/// Answers a BASELINE for each change instant that has a permanent state, however many, or 21.
+/// Returns a BASELINE for each change instant that has a permanent state, however many, or 21.
 fn baselines(table: &Table) -> Result<Vec<Record>, Refusal> {
     let instants = change_instants(table);
     let mut derived = vec![];
@@ -86,27 +87,22 @@ fn baselines(table: &Table) -> Result<Vec<Record>, Refusal> {
 #[cfg(test)]
 mod tests {
     use super::*;
+    use crate::fixtures::brief::{base, baseline, cancelling, change, closing, opening};
+    use crate::fixtures::rows::apart;
+    use crate::fixtures::{Case, FEATURE};
     use crate::histories::History;
     use crate::question::permanent_state;
     use crate::random::Random;
     use crate::record::NONE;
     use crate::supply::crowd;
-    use crate::tables::Tables;
-    use crate::vectors::brief::{base, baseline, cancelling, change, closing, opening};
-    use crate::vectors::derived::apart;
-    use crate::vectors::sample::{Case, FEATURE};
+    use crate::tables::{permanent, Tables};
     use std::collections::BTreeMap;
 
-    /// The byte that an output is filled with before.
+    /// The byte that fills an output before the call.
     const FILL: u8 = 0xa5;
 
-    /// Makes the permanent table of some cases.
-    fn permanent(cases: &[Case]) -> Vec<u8> {
-        Tables::of(cases).permanent
-    }
-
-    /// Answers the head of each derived record: sequence number, four times and the code in property 0;
-    /// or the number of the refusal.
+    /// Returns the head of each derived record: sequence number, four times and the code in
+    /// property 0; or the number of the refusal.
     fn heads(cases: &[Case]) -> Result<Vec<[u32; 6]>, u8> {
         let mut output = vec![FILL; 32 + 10 * 224];
         let count = derive(&permanent(cases), &mut output).map_err(Refusal::number)?;
@@ -127,7 +123,7 @@ mod tests {
         Ok((0..count).map(head).collect())
     }
 
-    /// The bytes of the paper's example, written out by its layout.
+    /// The bytes of the specification's example, written out by its layout.
     #[test]
     fn the_result_is_a_permanent_table() {
         let cases = [base(), change(1, 300, 2)];
@@ -148,8 +144,8 @@ mod tests {
         assert_eq!(output[480..], [FILL; 9]);
     }
 
-    /// "the distinct begins, ends and life ends, where given, of counted BASELINEs and the instants of
-    /// counted PERMDELTAs".
+    /// "the distinct begins, ends and life ends, where given, of counted BASELINEs and the instants
+    /// of counted PERMDELTAs".
     #[test]
     fn change_instants_are_distinct_and_rising() {
         let cases = [
@@ -264,18 +260,18 @@ mod tests {
         assert_eq!(output, [FILL; 255]);
         let mut output = vec![FILL; 65_536];
         for (count, answer) in [(255, Ok(255)), (256, Ok(256)), (257, Err(Refusal::Buffer))] {
-            assert_eq!(derive(&apart(count), &mut output), answer);
+            assert_eq!(derive(&permanent(&apart(count)), &mut output), answer);
         }
     }
 
-    /// Answers the record of the permanent state at an instant, or the refusal.
+    /// Returns the record of the permanent state at an instant, or the refusal.
     fn state_at(table: &[u8], instant: u32) -> Result<Vec<u8>, Refusal> {
         let mut record = vec![FILL; 224];
         permanent_state(table, instant, &mut record).map(|()| record)
     }
 
-    /// Holds that a derived table answers as the original did at some instants: the same record, or 20
-    /// where it had none; and that deriving once more gives the same bytes.
+    /// Checks that a derived table gives the same states as the original at some instants: the same
+    /// record, or 20 if there was none; and that deriving again gives the same bytes.
     fn hold_read_back(original: &[u8], derived: &[u8], instants: &[u32]) {
         for &instant in instants {
             let state = state_at(original, instant).map_err(|_| Refusal::NoState);
@@ -286,8 +282,8 @@ mod tests {
         assert_eq!(again, derived);
     }
 
-    /// Holds that a history is refused where it has two anchors, and else reads back; answers how many
-    /// baselines are derived, if it is not refused.
+    /// Checks that a history with two anchors is refused and that any other reads back; returns the
+    /// number of derived baselines, if it is not refused.
     fn hold_history(tables: &Tables) -> Option<usize> {
         let (table, instants) = (&tables.permanent, tables.instants());
         let mut output = vec![FILL; 32 + 64 * 224 + 7];
@@ -304,17 +300,14 @@ mod tests {
         Some(count)
     }
 
-    /// Ten thousand random histories, at and beside every instant that matters.
+    /// Ten thousand random histories, at and next to every instant that matters.
     #[test]
     fn random_histories_are_read_back() {
         let mut random = Random::new(31);
         let mut history = History::new(&mut random);
         let mut counts = BTreeMap::new();
-        for step in 0..10_000 {
-            if step % 20 == 0 {
-                history = History::new(&mut random);
-            }
-            history.change(&mut random);
+        for _ in 0..10_000 {
+            history.go_on(&mut random, 20);
             *counts.entry(hold_history(history.tables())).or_insert(0) += 1;
         }
         let often = [None, Some(0), Some(1), Some(2), Some(3), Some(4), Some(5)];

@@ -1,4 +1,4 @@
-//! The paper's fourteen examples, written down from the paper, and the order of the refusals.
+//! The fourteen examples, written down from the specification, and the order of the refusals.
 
 use crate::arrival::{arrive, Arrival};
 use crate::property::{decode, Reason, Value};
@@ -17,7 +17,8 @@ struct Tables {
     temporary: Vec<u8>,
 }
 
-/// Makes a slice: kind, sequence number and four times; property 0 as given, the rest not mentioned.
+/// Makes a slice: kind, sequence number and four times; property 0 as given, the rest not
+/// mentioned.
 fn slice(kind: u8, sequence: u8, times: [u32; 4], property_0: &[u8]) -> Vec<u8> {
     let mut slice = vec![0; 240];
     slice[..16].copy_from_slice(&FEATURE);
@@ -35,7 +36,7 @@ fn code(value: u8) -> [u8; 10] {
     [2, 0, 0, 0, 0, 0, 0, 0, 0, value]
 }
 
-/// Makes a slice with nil, unknown where it mentioned nothing.
+/// Makes every property that a slice does not mention nil, unknown.
 fn with_nils(mut slice: Vec<u8>) -> Vec<u8> {
     for part in slice[48..].chunks_mut(24).filter(|part| part[0] == 0) {
         part[..2].copy_from_slice(&[1, 4]);
@@ -58,7 +59,7 @@ fn t(sequence: u8, begin: u32, end: u32, value: u8) -> Vec<u8> {
     slice(3, sequence, [begin, end, NONE, NONE], &code(value))
 }
 
-/// Makes the slice of a correction.
+/// Gives a slice a correction number.
 fn corrected(mut slice: Vec<u8>, correction: u8) -> Vec<u8> {
     slice[19] = correction;
     slice
@@ -71,7 +72,7 @@ fn cancelled(of: &[u8]) -> Vec<u8> {
     corrected(slice, 1)
 }
 
-/// Makes two tables that these slices came to.
+/// Makes two tables and delivers these slices to them.
 fn tables(slices: &[Vec<u8>]) -> Tables {
     let mut tables = Tables {
         permanent: vec![0xee; 32 + 4 * 224],
@@ -86,7 +87,7 @@ fn tables(slices: &[Vec<u8>]) -> Tables {
 }
 
 impl Tables {
-    /// Brings a slice to its table.
+    /// Delivers a slice to its table.
     fn arrive(&mut self, slice: &[u8]) -> Result<Arrival, Refusal> {
         let table = match slice[16] {
             3 => &mut self.temporary,
@@ -95,8 +96,8 @@ impl Tables {
         arrive(table, slice)
     }
 
-    /// Answers property 0 at an instant, by the snapshot, which the property question must agree with: a
-    /// code, "nil", or a refusal as "!" and its number.
+    /// Returns property 0 of the snapshot at an instant, which must agree with the property
+    /// question: a code, "nil", or "!" and the number of the refusal.
     fn at(&self, instant: u32) -> String {
         let mut record = [0xee; 224];
         let written = snapshot(&self.permanent, &self.temporary, instant, &mut record);
@@ -121,8 +122,8 @@ impl Tables {
     }
 }
 
-/// Holds an instant and its answer each, with deltas that mention property 0 alone and with nil in the
-/// others.
+/// Checks the answer at each instant, with deltas that mention property 0 alone and with deltas
+/// that have nil in the others.
 fn hold(slices: &[Vec<u8>], answers: &str) {
     let nils: Vec<Vec<u8>> = slices
         .iter()
@@ -175,7 +176,7 @@ fn example_5() {
     hold(&[base(), change.clone(), cancelled(&change)], "150 1");
 }
 
-/// 6: TEMPDELTAs one over the other.
+/// 6: TEMPDELTAs that overlap.
 #[test]
 fn example_6() {
     let slices = [base(), t(1, 120, 140, 5), t(2, 130, 160, 6)];
@@ -268,7 +269,8 @@ fn a_state_is_written_by_the_layout() {
     assert_eq!(record[..], expected);
 }
 
-/// "permanent table 1-7; temporary table 1-7, then 8 ..; 19; 23 ..; then 21, 20, 22", each before the next.
+/// "permanent table 1-7; temporary table 1-7, then 8 ..; 19; 23 ..; then 21, 20, 22", each before
+/// the next.
 #[test]
 fn refusals_come_in_their_order() {
     let mut tables = tables(&[base(), b(2, 200, NONE, 2)]);

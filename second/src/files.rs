@@ -11,7 +11,7 @@ pub struct File {
 }
 
 impl File {
-    /// Makes a file of a name and an ending.
+    /// Makes a file with a name and an extension.
     pub fn new(name: &str, ending: &str, bytes: &[u8]) -> File {
         File {
             name: format!("{name}.{ending}"),
@@ -20,7 +20,7 @@ impl File {
     }
 }
 
-/// Writes files into a folder, which is made where there is none.
+/// Writes files into a folder, which is created if it does not exist.
 pub fn write(folder: &str, files: &[File]) -> io::Result<()> {
     let folder = Path::new(folder);
     fs::create_dir_all(folder)?;

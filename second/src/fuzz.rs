@@ -1,27 +1,25 @@
-//! Programs of calls that are read from bytes, as a fuzzer makes them, and played to a library and to this
+//! Programs of calls, decoded from the bytes of a fuzzer and played with a library and with this
 //! program.
 
 #[cfg(feature = "fuzz")]
 pub mod driver;
 
 use crate::compare::{Comparison, Difference};
-use crate::histories::History;
+use crate::fixtures::{FEATURE, PARTS, TIMES};
+use crate::histories::some_tables;
+use crate::layout::{bytes_of, PROPERTIES, PROPERTY_BYTES, RECORD_BYTES};
 use crate::library::Library;
 use crate::play::{Call, Player};
-use crate::property::{PROPERTIES, PROPERTY_BYTES};
 use crate::random::Random;
-use crate::record::{Side, NONE, RECORD_BYTES};
+use crate::record::{Side, NONE};
 use crate::supply;
 use crate::tables::{Product, Question, Tables};
 use crate::tally::Tally;
-use crate::vectors::deriving::bytes_of;
-use crate::vectors::parts::edge_part;
-use crate::vectors::sample::{FEATURE, PARTS, TIMES};
 
 /// The most records of a table that a program fills.
 const ROOM: usize = 8;
 
-/// A program under way: what is left to read, who plays, and what the calls so far have left.
+/// A program in progress: the bytes still to read, the player, and what the calls so far have left.
 struct Program<'a> {
     random: Random,
     player: Comparison<'a>,
@@ -31,7 +29,7 @@ struct Program<'a> {
     output: Vec<u8>,
 }
 
-/// Plays the program of these bytes; answers the first difference.
+/// Plays the program that these bytes encode; returns the first difference.
 pub fn play(library: &Library, bytes: &[u8]) -> Result<(), Box<Difference>> {
     let mut tally = Tally::default();
     let mut program = Program {
@@ -64,7 +62,7 @@ impl Program<'_> {
         Ok(())
     }
 
-    /// Answers one side or the other.
+    /// Returns one side or the other.
     fn side(&mut self) -> Side {
         self.random.pick(&[Side::Permanent, Side::Temporary])
     }
@@ -78,11 +76,7 @@ impl Program<'_> {
                 let (count, rest) = (self.random.below(ROOM), self.random.below(256));
                 *self.tables.of_side(side) = supply::table(&mut self.random, side, count, rest);
             }
-            _ => {
-                let mut history = History::new(&mut self.random);
-                history.change(&mut self.random);
-                self.tables = history.tables().clone();
-            }
+            _ => self.tables = some_tables(&mut self.random),
         }
     }
 
@@ -103,14 +97,14 @@ impl Program<'_> {
             }
             3 if is_whole => {
                 let place = PARTS + PROPERTY_BYTES * self.random.below(PROPERTIES);
-                let part = edge_part(&mut self.random);
+                let part = supply::edge_part(&mut self.random);
                 self.slice[place..place + PROPERTY_BYTES].copy_from_slice(&part);
             }
             _ => self.slice = supply::slice_for(&mut self.random, self.tables.of_side(side)),
         }
     }
 
-    /// Damages a table or the slice: somehow, or one byte of it.
+    /// Damages a table or the slice, in some way or in one byte.
     fn damage(&mut self) {
         let (choice, side) = (self.random.below(4), self.side());
         let random = &mut self.random;
@@ -126,7 +120,7 @@ impl Program<'_> {
         }
     }
 
-    /// Makes the record and the output anew, of other lengths.
+    /// Makes a new record and a new output of other lengths.
     fn resize(&mut self) {
         let length = self.random.pick(&[RECORD_BYTES, RECORD_BYTES, 223, 225]);
         self.record = vec![self.random.byte(); length];
@@ -135,7 +129,7 @@ impl Program<'_> {
         self.output = vec![self.random.byte(); length];
     }
 
-    /// Plays a new table in place of one of the two.
+    /// Plays a new table over one of the two.
     fn create(&mut self) -> Result<(), Box<Difference>> {
         let (side, number) = (self.side(), self.random.pick(&[0, 1, 2, 255]));
         let (mut feature, records) = (FEATURE, self.random.below(ROOM));
@@ -190,7 +184,7 @@ mod tests {
     use super::*;
     use crate::library::{Reply, PLAIN};
 
-    /// Answers how many of some programs of any bytes make a difference.
+    /// Returns how many of some programs of any bytes make a difference.
     fn differences(library: &Library) -> usize {
         let mut random = Random::new(1);
         let programs = (0..2000).map(|_| {

@@ -1,17 +1,18 @@
-//! Random small histories, each a little other than the last.
+//! Random small histories, each slightly different from the last.
 
+use crate::fixtures::{self, code, nil, sound_parts, unmentioned, Area, Case, FLAGS, KIND};
+use crate::layout::bytes_of;
 use crate::random::Random;
-use crate::record::{Kind, Side, NONE, RECORD_BYTES};
+use crate::record::{Kind, Side, NONE};
+use crate::slice;
 use crate::supply::EDGES;
-use crate::table::HEADER_BYTES;
 use crate::tables::Tables;
-use crate::vectors::sample::{self, code, nil, sound_parts, unmentioned, Area, Case, FLAGS, KIND};
 use std::collections::BTreeMap;
 
 /// How many records a table of a history has room for.
 const ROOM: usize = 6;
 
-/// How many instants the times of a history lie in, and where these begin.
+/// How many instants the times of a history come from, and where these instants begin.
 const INSTANTS: usize = 8;
 const BEGINS: [u32; 8] = [
     0,
@@ -24,26 +25,30 @@ const BEGINS: [u32; 8] = [
     NONE - INSTANTS as u32,
 ];
 
-/// A history that goes on changing: its records by kind and sequence number, and its tables, in which
-/// bytes of earlier records stay behind those that are counted.
+/// A history that keeps changing: its records by kind and sequence number, and its tables, in which
+/// bytes of earlier records remain after the counted ones.
 pub struct History {
     begin: u32,
     records: BTreeMap<(u8, u32), Case>,
     tables: Tables,
 }
 
+/// Makes the tables of a history of a few records.
+#[cfg(any(test, feature = "linked"))]
+pub fn some_tables(random: &mut Random) -> Tables {
+    let mut history = History::new(random);
+    history.change(random);
+    history.tables
+}
+
 impl History {
     /// Makes a history of some records.
     pub fn new(random: &mut Random) -> History {
-        let length = HEADER_BYTES + ROOM * RECORD_BYTES + random.below(3);
-        let table = |side| sample::table(side, &[], length, 0);
+        let length = bytes_of(ROOM) + random.below(3);
         let mut history = History {
             begin: random.pick(&BEGINS),
             records: BTreeMap::new(),
-            tables: Tables {
-                permanent: table(Side::Permanent),
-                temporary: table(Side::Temporary),
-            },
+            tables: Tables::empty(length),
         };
         for _ in 0..random.below(8) {
             history.put(random);
@@ -51,7 +56,7 @@ impl History {
         history
     }
 
-    /// Answers the two tables as they are now.
+    /// Returns the two tables as they are now.
     pub fn tables(&self) -> &Tables {
         &self.tables
     }
@@ -70,7 +75,15 @@ impl History {
         self.write();
     }
 
-    /// Puts a new record in, or another in place of one where its table is full.
+    /// Changes the history; one time in this many, a new one takes its place first.
+    pub fn go_on(&mut self, random: &mut Random, often: usize) {
+        if random.below(often) == 0 {
+            *self = History::new(random);
+        }
+        self.change(random);
+    }
+
+    /// Adds a record or replaces one; removes one instead if its table is full.
     fn put(&mut self, random: &mut Random) {
         let kind = self.kind(random);
         let sequence = match random.below(6) {
@@ -94,13 +107,13 @@ impl History {
         self.records.insert((kind.byte(), sequence), case);
     }
 
-    /// Answers whether a BASELINE is counted.
+    /// Returns whether a BASELINE is counted.
     fn is_based(&self) -> bool {
         let is_counted = |case: &Case| case.slice[KIND..=FLAGS] == [Kind::Baseline.byte(), 0];
         self.records.values().any(is_counted)
     }
 
-    /// Answers a kind, a BASELINE seldom but where none is counted.
+    /// Returns a kind, which is seldom a BASELINE if one is counted already.
     fn kind(&self, random: &mut Random) -> Kind {
         match random.below(12) {
             0 => Kind::Baseline,
@@ -110,63 +123,63 @@ impl History {
         }
     }
 
-    /// Answers the cases of a side, in their order.
+    /// Returns the cases of a side in the order of their keys.
     fn of(&self, side: Side) -> impl Iterator<Item = &Case> {
         let is_of_side = move |case: &&Case| case.side == side.byte();
         self.records.values().filter(is_of_side)
     }
 
-    /// Answers the key of some record, if there is one.
+    /// Returns the key of some record, if there is one.
     fn some_key(&self, random: &mut Random) -> Option<(u8, u32)> {
         let index = random.below(self.records.len().max(1));
         self.records.keys().nth(index).copied()
     }
 
-    /// Takes a record out.
+    /// Removes a record.
     fn remove(&mut self, random: &mut Random) {
         if let Some(key) = self.some_key(random) {
             self.records.remove(&key);
         }
     }
 
-    /// Gives a record other times; a cancelled one has none and stays.
+    /// Gives a record other times; a cancelled one stays as it is.
     fn change_times(&mut self, random: &mut Random) {
         let Some(key) = self.some_key(random) else {
             return;
         };
         let kind = Kind::of(key.0).expect("keys are of kinds");
-        let (times, case) = (self.times(random, kind), &self.records[&key]);
-        let changed = case.clone().with_times(times);
+        let times = self.times(random, kind);
         // A PERMDELTA that mentions nothing needs its life time.
-        if changed.number() == 0 {
-            self.records.insert(key, changed);
-        }
+        self.replace(key, self.records[&key].clone().with_times(times));
     }
 
-    /// Gives a record other properties; a cancelled one has none and stays.
+    /// Gives a record other properties; a cancelled one stays as it is.
     fn change_parts(&mut self, random: &mut Random) {
         let Some(key) = self.some_key(random) else {
             return;
         };
         let kind = Kind::of(key.0).expect("keys are of kinds");
-        let changed = self.records[&key]
-            .clone()
-            .with_parts(&self.parts(random, kind));
-        if changed.number() == 0 {
+        let parts = self.parts(random, kind);
+        self.replace(key, self.records[&key].clone().with_parts(&parts));
+    }
+
+    /// Replaces a record by a changed one, if that is sound.
+    fn replace(&mut self, key: (u8, u32), changed: Case) {
+        if slice::check(&changed.slice, &changed.feature, changed.side).is_ok() {
             self.records.insert(key, changed);
         }
     }
 
-    /// Answers an instant of the history, from the given one of its instants on.
+    /// Returns an instant of the history, not before the given one of its instants.
     fn instant(&self, random: &mut Random, from: usize) -> u32 {
         self.begin + (from + random.below(INSTANTS - from)) as u32
     }
 
-    /// Answers times that are right for a kind.
+    /// Returns times that are right for a kind.
     fn times(&self, random: &mut Random, kind: Kind) -> [u32; 4] {
         let mut from = random.below(INSTANTS);
         if kind == Kind::Baseline {
-            // An early begin, for the most part.
+            // Mostly an early begin.
             from = random.below(1 + from / 2);
         }
         let begin = self.begin + from as u32;
@@ -187,7 +200,7 @@ impl History {
         }
     }
 
-    /// Answers the times of a BASELINE of a period.
+    /// Returns the times of a BASELINE of a period.
     fn baseline_times(&self, random: &mut Random, begin: u32, end: u32) -> [u32; 4] {
         let life_begin = random.pick(&[NONE, begin, self.begin, 0]);
         let least = if end == NONE { begin + 1 } else { end };
@@ -219,8 +232,8 @@ impl History {
     fn write(&mut self) {
         for side in [Side::Permanent, Side::Temporary] {
             let records: Vec<Vec<u8>> = self.of(side).map(Case::record).collect();
-            let length = HEADER_BYTES + records.len() * RECORD_BYTES;
-            let written = sample::table(side, &records, length, 0);
+            let length = bytes_of(records.len());
+            let written = fixtures::table(side, &records, length, 0);
             self.tables.of_side(side)[..length].copy_from_slice(&written);
         }
     }
@@ -232,17 +245,14 @@ mod tests {
     use crate::question::property;
     use crate::table::{check, Sides};
 
-    /// Every history is sound, and each answer comes up often.
+    /// Every history is sound, and each answer occurs often.
     #[test]
     fn histories_are_sound_and_of_every_sort() {
         let mut random = Random::new(5);
         let mut history = History::new(&mut random);
         let mut counts = BTreeMap::new();
-        for step in 0..600 {
-            if step % 20 == 0 {
-                history = History::new(&mut random);
-            }
-            history.change(&mut random);
+        for _ in 0..600 {
+            history.go_on(&mut random, 20);
             let tables = history.tables();
             assert_eq!(check(&tables.permanent, Sides::Permanent), Ok(()));
             assert_eq!(check(&tables.temporary, Sides::Temporary), Ok(()));

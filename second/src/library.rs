@@ -1,14 +1,14 @@
-//! A library under test: its calls, however they are reached.
+//! A library under test, as a set of calls.
 
 use crate::arrival::Arrival;
+use crate::layout::PROPERTY_BYTES;
 use crate::plain;
-use crate::property::PROPERTY_BYTES;
 use crate::record::Side;
 use crate::refusal::Refusal;
 use crate::table::Feature;
 
-/// An answer as the C interface has it: kind 0 is a refusal with its number; derived baselines have their
-/// number there, a listing its length. A part has a place and a size; no other answer does.
+/// A reply as in the C interface. Kind 0 is a refusal and has its number; derived baselines have
+/// their count there, and a listing its length. Only a property has an offset and a size.
 #[derive(Clone, Copy, Debug, PartialEq, Eq, PartialOrd, Ord)]
 pub struct Reply {
     pub kind: u32,
@@ -29,7 +29,7 @@ pub struct Library {
     pub listing: fn(&[u8], &mut [u8]) -> Reply,
 }
 
-/// The plain program of this one, which derives in a walk, as the library does.
+/// The plain program, which derives in a walk, as the library does.
 pub const PLAIN: Library = Library {
     new_table: |table, side, feature| Reply::of_writing(plain::new_table(table, side, feature)),
     arrive: |table, slice| Reply::of_arrival(plain::arrive(table, slice)),
@@ -76,7 +76,7 @@ pub const ON_HEAP: Library = Library {
 };
 
 impl Reply {
-    /// Answers the reply of a kind, with a number: of a refusal, of records or of bytes.
+    /// Returns the reply of a kind, with a number: of a refusal, of records or of bytes.
     pub const fn new(kind: u32, number: u32) -> Reply {
         Reply {
             kind,
@@ -86,17 +86,17 @@ impl Reply {
         }
     }
 
-    /// Answers the reply that refuses.
+    /// Returns the reply of a refusal.
     fn refuse(refusal: Refusal) -> Reply {
         Reply::new(0, refusal.number().into())
     }
 
-    /// Answers the reply of a new table, a permanent state or a snapshot.
+    /// Returns the reply of a new table, a permanent state or a snapshot.
     pub fn of_writing(written: Result<(), Refusal>) -> Reply {
         written.map_or_else(Reply::refuse, |()| Reply::new(1, 0))
     }
 
-    /// Answers the reply of an arrival.
+    /// Returns the reply of an arrival.
     pub fn of_arrival(arrival: Result<Arrival, Refusal>) -> Reply {
         arrival.map_or_else(Reply::refuse, |arrival| {
             let kind = match arrival {
@@ -109,7 +109,7 @@ impl Reply {
         })
     }
 
-    /// Answers the reply of a property question, by the table of the part and its place.
+    /// Returns the reply of a property question, by the table of the property and its offset.
     pub fn of_part(part: Result<Option<(Side, usize)>, Refusal>) -> Reply {
         part.map_or_else(Reply::refuse, |part| {
             part.map_or(Reply::new(3, 0), |(side, place)| Reply {
@@ -121,12 +121,12 @@ impl Reply {
         })
     }
 
-    /// Answers the reply of derived baselines, by their number.
+    /// Returns the reply of derived baselines, by their number.
     pub fn of_derived(count: Result<usize, Refusal>) -> Reply {
         count.map_or_else(Reply::refuse, |count| Reply::new(1, count as u32))
     }
 
-    /// Answers the reply of a listing, by its length, which is an error where it does not fit.
+    /// Returns the reply of a listing, by its length, which is an error if it does not fit.
     pub fn of_listing(length: Result<usize, usize>) -> Reply {
         match length {
             Ok(length) => Reply::new(1, length as u32),

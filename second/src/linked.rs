@@ -3,7 +3,7 @@
 use crate::library::{Library, Reply};
 use crate::table::Feature;
 
-/// The C interface, declared once for all that link it.
+/// The C interface, declared once for all who link it.
 #[path = "../../bindings/rust/src/raw.rs"]
 mod raw;
 
@@ -19,7 +19,7 @@ pub const LINKED: Library = Library {
 };
 
 impl raw::Answer {
-    /// Answers the reply that says the same.
+    /// Returns the same as a reply.
     fn reply(self) -> Reply {
         Reply::new(self.kind, self.number)
     }
@@ -27,7 +27,7 @@ impl raw::Answer {
 
 /// Calls the library for a new table.
 fn new_table(table: &mut [u8], side: u8, feature: &Feature) -> Reply {
-    // SAFETY: the pointers and the length are those of live parts that nobody else uses meanwhile;
+    // SAFETY: the pointers and the length are those of live parts that nothing else uses meanwhile;
     // the feature has the 16 bytes that the call reads.
     unsafe { raw::tsl_new_table(table.as_mut_ptr(), table.len(), side, feature) }.reply()
 }

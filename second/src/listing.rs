@@ -1,15 +1,16 @@
 //! The listing of a permanent table: the text of its derived baselines, a line each.
 
 use crate::derived::derive;
+use crate::layout::{bytes_of, MOST_RECORDS};
 use crate::property::Value;
-use crate::record::{Record, RECORD_BYTES};
+use crate::record::Record;
 use crate::refusal::Refusal;
-use crate::table::{Sides, Table, HEADER_BYTES, MOST_RECORDS};
+use crate::table::{Sides, Table};
 
-/// The bytes that the listing program reads at most, and derives into.
-pub const MOST_BYTES: usize = HEADER_BYTES + MOST_RECORDS * RECORD_BYTES;
+/// The most bytes that the listing program reads, and the size of its derived table.
+pub const MOST_BYTES: usize = bytes_of(MOST_RECORDS);
 
-/// Answers what the listing program prints for its whole input.
+/// Returns what the listing program prints for its whole input.
 pub fn program(input: &[u8]) -> String {
     if input.len() > MOST_BYTES {
         return "too long\n".to_string();
@@ -17,7 +18,7 @@ pub fn program(input: &[u8]) -> String {
     listing(input)
 }
 
-/// Answers the listing of a table: its derived baselines, or what they are refused for.
+/// Returns the listing of a table: its derived baselines, or the number of the refusal.
 pub fn listing(permanent: &[u8]) -> String {
     let mut output = vec![0; MOST_BYTES];
     match derive(permanent, &mut output) {
@@ -26,27 +27,27 @@ pub fn listing(permanent: &[u8]) -> String {
     }
 }
 
-/// Writes the listing into the first bytes of a place, if it fits; answers its length, as an error
-/// where it does not.
+/// Writes the listing into the first bytes of the buffer, if it fits; returns its length, as an
+/// error if it does not fit.
 pub fn list(permanent: &[u8], text: &mut [u8]) -> Result<usize, usize> {
     let listing = listing(permanent);
-    let place = text.get_mut(..listing.len()).ok_or(listing.len())?;
-    place.copy_from_slice(listing.as_bytes());
+    let first = text.get_mut(..listing.len()).ok_or(listing.len())?;
+    first.copy_from_slice(listing.as_bytes());
     Ok(listing.len())
 }
 
-/// Answers the line of a refusal.
+/// Returns the line of a refusal.
 fn refused(refusal: Refusal) -> String {
     format!("refused {}\n", refusal.number())
 }
 
-/// Answers the lines of the records in a derived table.
+/// Returns the lines of the records in a derived table.
 fn lines(derived: &[u8]) -> String {
     let table = Table::read(derived, Sides::Permanent).expect("a derived table is sound");
     table.records.values().map(line).collect()
 }
 
-/// Answers the line of a derived record: its sequence number, begin and end, and the forms.
+/// Returns the line of a derived record: its sequence number, begin and end, and the forms.
 fn line(record: &Record) -> String {
     let period = record.head.period;
     let begin = period.begin.expect("a derived record has a begin").0;
@@ -57,7 +58,7 @@ fn line(record: &Record) -> String {
     format!("{} {begin} {end} {forms}\n", record.head.sequence.0)
 }
 
-/// Answers the digit of a property's form.
+/// Returns the digit of a property's form.
 fn form(property: &Option<Value>) -> char {
     match property.expect("a derived record is sound") {
         Value::Unmentioned => '0',
@@ -72,18 +73,18 @@ fn form(property: &Option<Value>) -> char {
 #[cfg(test)]
 mod tests {
     use super::*;
+    use crate::fixtures::brief::{base, baseline, change, closing, opening};
+    use crate::fixtures::{mentions, nil, Case};
     use crate::record::{Kind, NONE};
-    use crate::tables::Tables;
-    use crate::vectors::brief::{base, baseline, change, closing, opening};
-    use crate::vectors::sample::{mentions, nil, Case};
+    use crate::tables::{permanent, Tables};
 
-    /// Answers the text for the permanent table of some cases.
+    /// Returns the text for the permanent table of some cases.
     fn text(cases: &[Case]) -> String {
-        program(&Tables::of(cases).permanent)
+        program(&permanent(cases))
     }
 
-    /// "For BASELINE sequence 1 from 100, life begin 100, no end, all nil, and PERMDELTA sequence 1 at
-    /// 300, property 0 a code, it prints exactly".
+    /// "For BASELINE sequence 1 from 100, life begin 100, no end, all nil, and PERMDELTA sequence 1
+    /// at 300, property 0 a code, it prints exactly".
     #[test]
     fn the_example_prints_as_the_paper_says() {
         let cases = [base().with_part(0, &nil(4)), change(1, 300, 7)];
@@ -103,7 +104,7 @@ mod tests {
         assert_eq!(text(&cases), "derived 1\n1 0 10 21111111\n");
     }
 
-    /// Numbers of the first refusal; a length of the input comes before all of them.
+    /// The number of the first refusal; the length of the input is checked before all of them.
     #[test]
     fn refusals_are_told_by_number() {
         assert_eq!(program(&[]), "refused 1\n");
@@ -113,7 +114,7 @@ mod tests {
         assert_eq!(program(&temporary), "refused 2\n");
         assert_eq!(program(&[0; 57_376]), "refused 2\n");
         assert_eq!(program(&[0; 57_377]), "too long\n");
-        let mut table = Tables::of(&[]).permanent;
+        let mut table = permanent(&[]);
         table.resize(57_376, 9);
         assert_eq!(program(&table), "derived 0\n");
         table.push(9);
@@ -121,10 +122,10 @@ mod tests {
         assert_eq!(listing(&table), "derived 0\n");
     }
 
-    /// A text that fits is written from the first byte on, another is not.
+    /// A text that fits is written from the first byte on; one that does not fit is not written.
     #[test]
     fn a_listing_goes_into_its_place() {
-        let table = Tables::of(&[]).permanent;
+        let table = permanent(&[]);
         let mut text = [7; 12];
         assert_eq!(list(&table, &mut text), Ok(10));
         assert_eq!(text, *b"derived 0\n\x07\x07");

@@ -1,11 +1,11 @@
-//! Inputs of the listing program, each with the text that it prints.
+//! Inputs for the listing program, each with the text that it prints.
 
 use crate::files::File;
+use crate::fixtures::rows::about_full;
 use crate::histories::History;
 use crate::listing::{program, MOST_BYTES};
 use crate::random::Random;
-use crate::tables::Tables;
-use crate::vectors::derived::{apart, touching};
+use crate::tables::permanent;
 use crate::vectors::rules;
 use crate::vectors::themes::{paper, themes};
 
@@ -18,7 +18,7 @@ const HISTORIES: usize = 20;
 /// Names, and what goes with them.
 type Inputs = Vec<(String, Vec<u8>)>;
 
-/// Answers the inputs as files, and the text of each.
+/// Returns the inputs as files, and the text of each.
 pub fn files() -> Vec<File> {
     let pair = |(name, input): &(String, Vec<u8>)| {
         let text = program(input);
@@ -30,7 +30,7 @@ pub fn files() -> Vec<File> {
     inputs().iter().flat_map(pair).collect()
 }
 
-/// Answers every input with its name.
+/// Returns every input with its name.
 fn inputs() -> Inputs {
     [
         by_theme(),
@@ -43,7 +43,7 @@ fn inputs() -> Inputs {
     .concat()
 }
 
-/// Answers inputs with a word and a number each.
+/// Names each input with a word and a number.
 fn numbered(word: &str, inputs: impl Iterator<Item = Vec<u8>>) -> Inputs {
     inputs
         .zip(1..)
@@ -51,7 +51,7 @@ fn numbered(word: &str, inputs: impl Iterator<Item = Vec<u8>>) -> Inputs {
         .collect()
 }
 
-/// Answers some histories of each theme, spread over it.
+/// Returns some histories of each theme, spread over it.
 fn by_theme() -> Inputs {
     let some = |tables: Vec<Vec<u8>>| {
         let step = tables.len().div_ceil(OF_A_THEME);
@@ -63,7 +63,7 @@ fn by_theme() -> Inputs {
         .collect()
 }
 
-/// Answers a table with each other fault, and the table of the other side.
+/// Returns a table with every second fault, and a table of the other side.
 fn faults() -> Inputs {
     let [permanent, temporary] = rules::bases();
     let spoiled = rules::FAULTS
@@ -73,9 +73,9 @@ fn faults() -> Inputs {
     numbered("fault", spoiled.chain([temporary]))
 }
 
-/// Answers the paper's example cut short, and with bytes behind it.
+/// Returns the specification's example cut short, and with bytes after it.
 fn cut() -> Inputs {
-    let example = Tables::of(&paper()).permanent;
+    let example = permanent(&paper());
     let lengths = [
         0, 1, 3, 8, 31, 32, 33, 255, 256, 257, 479, 480, 481, 704, 1000,
     ];
@@ -87,9 +87,9 @@ fn cut() -> Inputs {
     numbered("cut", resized)
 }
 
-/// Answers inputs of the most bytes that are read, and longer ones.
+/// Returns inputs of the maximum length, and longer ones.
 fn long() -> Inputs {
-    let example = Tables::of(&paper()).permanent;
+    let example = permanent(&paper());
     let lengths = [0, 1, 2, 8160, 100_000].map(|more| MOST_BYTES + more);
     let filled = lengths.into_iter().map(|length| {
         let mut table = example.clone();
@@ -100,19 +100,13 @@ fn long() -> Inputs {
     numbered("long", filled.chain(zeros))
 }
 
-/// Answers tables of about as many derived baselines as a table holds.
+/// Returns tables of about as many derived baselines as a table holds.
 fn many() -> Inputs {
-    let tables = [
-        apart(255),
-        apart(256),
-        apart(257),
-        apart(511),
-        touching(256),
-    ];
+    let tables = about_full().map(|cases| permanent(&cases));
     numbered("many", tables.into_iter())
 }
 
-/// Answers random histories.
+/// Returns random histories.
 fn random_histories() -> Inputs {
     let mut random = Random::new(24);
     let tables = (0..HISTORIES).map(|_| {
@@ -128,7 +122,7 @@ mod tests {
     use super::*;
     use std::collections::{BTreeMap, BTreeSet};
 
-    /// Enough of them, each under its own name, small together, and every first line among them.
+    /// There are enough, each with its own name, small in total, and every first line occurs.
     #[test]
     fn inputs_are_many_and_of_every_sort() {
         let files = files();

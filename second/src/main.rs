@@ -1,6 +1,12 @@
-//! The second program: the property layout, the property rule, the slice check, tables, arrivals, the
-//! questions about an instant, derived baselines and their listing, written from the specification
-//! alone, and the vectors that go with them. Where the library is linked it is compared and measured.
+//! The second program: the property layout, the property rule, the slice check, tables, arrivals,
+//! the questions about an instant, derived baselines and their listing, and the vectors that go
+//! with them. If the library is linked, this program compares it with its own answers and measures
+//! it.
+//!
+//! It shares no code with the library and uses another method: decoded values, maps, sorting, and
+//! states made afresh at each instant. It was written from the specification and, where the
+//! specification is silent, from the same decisions (docs/DECISIONS.md). There the two agree by
+//! choice, and comparing them does not find a fault in a decision.
 
 mod arrival;
 #[cfg(any(test, feature = "linked"))]
@@ -11,9 +17,11 @@ mod derived;
 #[cfg(test)]
 mod examples;
 mod files;
+mod fixtures;
 #[cfg(any(test, feature = "fuzz"))]
 mod fuzz;
 mod histories;
+mod layout;
 #[cfg(any(test, feature = "linked"))]
 mod library;
 #[cfg(feature = "linked")]
@@ -41,10 +49,10 @@ mod vectors;
 use std::io::Write;
 use std::process::ExitCode;
 
-/// The exit code for an ask that is unknown.
+/// The exit code for an unknown command line.
 const UNKNOWN: u8 = 2;
 
-/// Answers the text a command line asks for, if it asks for one.
+/// Returns the text a command line asks for, if it asks for one.
 fn text(words: &[&str]) -> Option<String> {
     match words {
         ["vectors"] => Some(vectors::all().listing()),
@@ -56,8 +64,8 @@ fn text(words: &[&str]) -> Option<String> {
     }
 }
 
-/// Writes the files that a command line asks for; answers whether that went well, or nothing for another
-/// ask.
+/// Writes the files that a command line asks for; returns whether it worked, or nothing for other
+/// command lines.
 fn files(words: &[&str]) -> Option<bool> {
     let (folder, files) = match words {
         ["listings", folder] => (folder, listings::files()),
@@ -71,7 +79,8 @@ fn files(words: &[&str]) -> Option<bool> {
     Some(written.is_ok())
 }
 
-/// Compares or measures the library; answers whether all was well, or nothing for another ask.
+/// Compares or measures the library; returns whether all went well, or nothing for other command
+/// lines.
 #[cfg(feature = "linked")]
 fn with_library(words: &[&str]) -> Option<bool> {
     use compare::Limit;
@@ -88,7 +97,8 @@ fn with_library(words: &[&str]) -> Option<bool> {
     Some(compare::run(&linked::LINKED, limit, seed))
 }
 
-/// Says that the library is not linked, where it is needed; answers nothing for another ask.
+/// Says that a command needs the library, which is not linked; returns nothing for other command
+/// lines.
 #[cfg(not(feature = "linked"))]
 fn with_library(words: &[&str]) -> Option<bool> {
     let name = words
@@ -98,7 +108,7 @@ fn with_library(words: &[&str]) -> Option<bool> {
     Some(false)
 }
 
-/// Does what was asked for; answers 0, 1 where it failed, 2 where the ask is unknown.
+/// Runs the command line; returns 0 for success, 1 for a failure, 2 for an unknown command line.
 fn main() -> ExitCode {
     let arguments: Vec<String> = std::env::args().skip(1).collect();
     let words: Vec<&str> = arguments.iter().map(String::as_str).collect();

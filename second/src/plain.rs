@@ -1,10 +1,11 @@
-//! The calls once more, in place on the bytes, as a plain fast program has them. The library is
-//! measured against these; they are held against `table`, `arrival`, `question`, `derived` and `listing`
-//! in the tests.
+//! The calls again, in place on the bytes, as a plain fast program does them. The library is
+//! measured against these. The tests compare them with `table`, `arrival`, `question`, `derived`
+//! and `listing`.
 
 mod derive;
 mod few;
 mod listing;
+mod standing;
 mod state;
 mod walk;
 
@@ -38,7 +39,7 @@ pub fn new_table(table: &mut [u8], side: u8, feature: &Feature) -> Result<(), Re
     Ok(())
 }
 
-/// Brings a slice to a table.
+/// Delivers a slice to a table.
 pub fn arrive(table: &mut [u8], slice: &[u8]) -> Result<Arrival, Refusal> {
     let count = check_table(table, 0..=1)?.len();
     let record = check_slice(slice, &table[8..24], table[3])?;
@@ -56,7 +57,7 @@ pub fn arrive(table: &mut [u8], slice: &[u8]) -> Result<Arrival, Refusal> {
     }
 }
 
-/// Holds a record against the stored one of the same key, which it may replace.
+/// Compares a record with the stored one of the same key, which it may replace.
 fn correct(stored: &mut Record, record: &Record) -> Result<Arrival, Refusal> {
     match correction(record).cmp(&correction(stored)) {
         Ordering::Greater => {
@@ -69,7 +70,7 @@ fn correct(stored: &mut Record, record: &Record) -> Result<Arrival, Refusal> {
     }
 }
 
-/// Answers the records that a table of one of the sides counts, or the first refusal, 1 to 7.
+/// Returns the records that a table of one of the sides counts, or the first refusal, 1 to 7.
 fn check_table(table: &[u8], sides: RangeInclusive<u8>) -> Result<&[Record], Refusal> {
     let (header, rest) = table.split_first_chunk::<HEADER>().ok_or(Refusal::Short)?;
     let side = header[3];
@@ -92,7 +93,7 @@ fn check_table(table: &[u8], sides: RangeInclusive<u8>) -> Result<&[Record], Ref
     Ok(records)
 }
 
-/// Answers 6 where a record is not sound, or else 7 where they do not rise, in one pass.
+/// Returns 6 if a record is not sound, or else 7 if their keys do not ascend, in one pass.
 fn check_records(records: &[Record], side: u8) -> Result<(), Refusal> {
     let mut is_rising = true;
     let mut last = 0;
@@ -105,7 +106,7 @@ fn check_records(records: &[Record], side: u8) -> Result<(), Refusal> {
     is_rising.then_some(()).ok_or(Refusal::Order)
 }
 
-/// Answers the record of a slice, or the first refusal, 9 to 16.
+/// Returns the record of a slice, or the first refusal, 9 to 16.
 fn check_slice<'a>(slice: &'a [u8], feature: &[u8], side: u8) -> Result<&'a Record, Refusal> {
     let slice: &[u8; 240] = slice.try_into().map_err(|_| Refusal::Length)?;
     if slice[..16] != *feature {
@@ -116,7 +117,7 @@ fn check_slice<'a>(slice: &'a [u8], feature: &[u8], side: u8) -> Result<&'a Reco
     Ok(record)
 }
 
-/// Answers the first refusal, 11 to 16, that a record meets.
+/// Returns the first refusal, 11 to 16, of a record, if any.
 fn check_record(record: &Record, side: u8) -> Result<(), Refusal> {
     let kind = record[0];
     if !matches!((side, kind), (0, 1 | 2) | (1, 3)) {
@@ -143,7 +144,7 @@ fn check_record(record: &Record, side: u8) -> Result<(), Refusal> {
     is_enough.then_some(()).ok_or(Refusal::Content)
 }
 
-/// Answers how many properties of a record are mentioned, if all of them keep the layout.
+/// Returns how many properties of a record are mentioned, if all of them keep the layout.
 fn mentions(record: &Record) -> Option<usize> {
     let (parts, _) = record[32..].as_chunks();
     let mut mentions = 0;
@@ -156,7 +157,7 @@ fn mentions(record: &Record) -> Option<usize> {
     Some(mentions)
 }
 
-/// Answers whether a property keeps the layout.
+/// Returns whether a property keeps the layout.
 fn is_sound(part: &Part) -> bool {
     let (words, _) = part.as_chunks();
     let [head, first, second] = [0, 1, 2].map(|index| u64::from_be_bytes(words[index]));
@@ -176,11 +177,11 @@ fn is_sound(part: &Part) -> bool {
     }
 }
 
-/// Answers whether begin, end, life begin and life end are right for a kind.
+/// Returns whether begin, end, life begin and life end are right for a kind.
 fn times_are_right(kind: u8, [begin, end, life_begin, life_end]: [u32; 4]) -> bool {
     let is_given = begin != NONE;
     match kind {
-        // "None" is above every time, so that an end of none is after the begin.
+        // "None" is above every time, so an end of none is after the begin.
         1 => {
             is_given
                 && end > begin
@@ -199,18 +200,18 @@ fn times_are_right(kind: u8, [begin, end, life_begin, life_end]: [u32; 4]) -> bo
     }
 }
 
-/// Answers the number of four bytes of a record.
+/// Returns the number of four bytes of a record.
 fn number(record: &Record, at: usize) -> u32 {
     let bytes = [record[at], record[at + 1], record[at + 2], record[at + 3]];
     u32::from_be_bytes(bytes)
 }
 
-/// Answers the correction number of a record.
+/// Returns the correction number of a record.
 fn correction(record: &Record) -> u16 {
     u16::from_be_bytes([record[2], record[3]])
 }
 
-/// Answers kind and sequence number as one number that rises as they do.
+/// Returns kind and sequence number as one number with the same order.
 fn key(record: &Record) -> u64 {
     u64::from(record[0]) << 32 | u64::from(number(record, 4))
 }

@@ -1,19 +1,19 @@
-//! Rounds of random, edge and damaged calls, put to whoever plays them.
+//! Rounds of random, edge and damaged calls, for any player to make.
 
 #[cfg(any(test, feature = "linked"))]
 pub mod further;
 
+use crate::fixtures::rows::apart;
+use crate::fixtures::FEATURE;
 use crate::histories::History;
+use crate::layout::{bytes_of, RECORD_BYTES};
 use crate::random::Random;
-use crate::record::{Side, NONE, RECORD_BYTES};
+use crate::record::{Side, NONE};
 use crate::supply;
-use crate::table::{Feature, HEADER_BYTES};
-use crate::tables::{Product, Question, Tables};
-use crate::vectors::derived::apart;
-use crate::vectors::deriving::bytes_of;
-use crate::vectors::sample::FEATURE;
+use crate::table::Feature;
+use crate::tables::{permanent, Product, Question, Tables};
 
-/// A call that may change a place: a table, for a question the record, or else the output.
+/// A call that may change a buffer: a table, the record of a question, or an output.
 pub enum Call<'a> {
     Create {
         side: u8,
@@ -33,12 +33,12 @@ pub enum Call<'a> {
     },
 }
 
-/// Who a call is put to.
+/// Makes the calls of a round.
 pub trait Player {
     type Fault;
 
-    /// Takes a call; the place becomes what it is after it. A fault ends the round.
-    fn call(&mut self, place: &mut Vec<u8>, call: &Call) -> Result<(), Self::Fault>;
+    /// Makes a call, and leaves the buffer as the call left it. A fault ends the round.
+    fn call(&mut self, buffer: &mut Vec<u8>, call: &Call) -> Result<(), Self::Fault>;
 }
 
 /// Two tables and the instant that is asked about.
@@ -47,7 +47,7 @@ struct Asked<'a> {
     instant: u32,
 }
 
-/// A round under way, and the record and the output that the last call left.
+/// A round in progress, with the record and the output that the last call left.
 struct Round<'a, P: Player> {
     player: &'a mut P,
     random: Random,
@@ -56,11 +56,11 @@ struct Round<'a, P: Player> {
     output: Vec<u8>,
 }
 
-/// The small histories of a round that are asked about, and those of which baselines are derived.
+/// The small histories of a round that are asked about, and those that baselines are derived from.
 const HISTORIES: usize = 240;
 const DERIVED: usize = 40;
 
-/// Plays one round of every sort of call, at tables of at most so many records, 40 or more.
+/// Plays one round of every sort of call, on tables of at most this many records, 40 or more.
 pub fn round<P: Player>(player: &mut P, seed: u64, most: usize) -> Result<(), P::Fault> {
     let mut round = Round::new(player, seed, most);
     round.creations()?;
@@ -74,7 +74,7 @@ pub fn round<P: Player>(player: &mut P, seed: u64, most: usize) -> Result<(), P:
 }
 
 impl<'a, P: Player> Round<'a, P> {
-    /// Answers a round that begins.
+    /// Starts a round.
     fn new(player: &'a mut P, seed: u64, most: usize) -> Round<'a, P> {
         Round {
             player,
@@ -95,9 +95,9 @@ impl<'a, P: Player> Round<'a, P> {
         self.player.call(table, &Call::Create { side, feature })
     }
 
-    /// Plays new tables in places of any length, filled with anything.
+    /// Plays new tables in buffers of any length, filled with anything.
     fn creations(&mut self) -> Result<(), P::Fault> {
-        let full = HEADER_BYTES + self.most * RECORD_BYTES;
+        let full = bytes_of(self.most);
         for length in (0..40).chain([255, 256, 1000, full, full + 3000]) {
             let mut table = vec![0; length];
             self.random.fill(&mut table);
@@ -110,12 +110,12 @@ impl<'a, P: Player> Round<'a, P> {
         Ok(())
     }
 
-    /// Answers one side or the other.
+    /// Returns one side or the other.
     fn side(&mut self) -> Side {
         self.random.pick(&[Side::Permanent, Side::Temporary])
     }
 
-    /// Plays arrivals at sound tables of any size, at the tables that come out, and at spoiled ones.
+    /// Plays arrivals at sound tables of any size, at the resulting tables, and at spoiled ones.
     fn lone_arrivals(&mut self) -> Result<(), P::Fault> {
         for _ in 0..100 {
             let side = self.side();
@@ -172,7 +172,7 @@ impl<'a, P: Player> Round<'a, P> {
         Ok(())
     }
 
-    /// Plays a whole delivery of many keys to a new table, damaged now and then.
+    /// Plays a whole delivery of many keys to a new table, damaged sometimes.
     fn delivery(&mut self) -> Result<(), P::Fault> {
         let (side, most) = (self.side(), self.most);
         let size = self.random.pick(&[4, 16, 40, most]);
@@ -180,7 +180,7 @@ impl<'a, P: Player> Round<'a, P> {
         let room = self
             .random
             .pick(&[keys, keys / 2, keys + 1, most, most + 1]);
-        let mut table = vec![0; HEADER_BYTES + room * RECORD_BYTES + self.random.below(224)];
+        let mut table = vec![0; bytes_of(room) + self.random.below(224)];
         self.random.fill(&mut table);
         self.create(&mut table, side.byte(), &FEATURE)?;
         for slice in supply::delivery(&mut self.random, side, keys) {
@@ -209,10 +209,7 @@ impl<'a, P: Player> Round<'a, P> {
     fn histories(&mut self) -> Result<(), P::Fault> {
         let mut history = History::new(&mut self.random);
         for _ in 0..HISTORIES {
-            if self.random.below(16) == 0 {
-                history = History::new(&mut self.random);
-            }
-            history.change(&mut self.random);
+            history.go_on(&mut self.random, 16);
             for instant in history.tables().instants() {
                 self.every_question(&Asked {
                     tables: history.tables(),
@@ -238,7 +235,7 @@ impl<'a, P: Player> Round<'a, P> {
         Ok(())
     }
 
-    /// Plays the permanent state, the snapshot and each property, now and then into a new record.
+    /// Plays the permanent state, the snapshot and each property, sometimes into a new record.
     fn every_question(&mut self, asked: &Asked) -> Result<(), P::Fault> {
         if self.random.below(16) == 0 || self.record.len() != RECORD_BYTES {
             self.record = vec![self.random.byte(); RECORD_BYTES];
@@ -286,7 +283,7 @@ impl<'a, P: Player> Round<'a, P> {
         self.player.call(&mut self.output, &call)
     }
 
-    /// Plays derived baselines and the listing of a table, now and then into a new output.
+    /// Plays derived baselines and the listing of a table, sometimes into a new output.
     fn products(&mut self, permanent: &[u8], lengths: &[usize]) -> Result<(), P::Fault> {
         for product in [Product::Derived, Product::Listing] {
             if self.random.below(8) == 0 {
@@ -304,10 +301,7 @@ impl<'a, P: Player> Round<'a, P> {
         let long = bytes_of(18);
         let lengths = [0, 10, 31, 32, 255, 256, 480, long, long, long, long, 5000];
         for _ in 0..DERIVED {
-            if self.random.below(8) == 0 {
-                history = History::new(&mut self.random);
-            }
-            history.change(&mut self.random);
+            history.go_on(&mut self.random, 8);
             let Tables {
                 permanent,
                 temporary,
@@ -324,12 +318,13 @@ impl<'a, P: Player> Round<'a, P> {
         Ok(())
     }
 
-    /// Plays derived baselines and listings of large histories: any one, and as many as fit or one more.
+    /// Plays derived baselines and listings of large histories: any one, and as many as fit or one
+    /// more.
     fn many_derived(&mut self) -> Result<(), P::Fault> {
         let most = bytes_of(self.most);
-        let any = Tables::of(&supply::crowd(&mut self.random, self.most)).permanent;
+        let any = permanent(&supply::crowd(&mut self.random, self.most));
         let less = self.random.pick(&[0, 1, 2]);
-        let tables = [any, apart(self.most as u32 + 1 - less)];
+        let tables = [any, permanent(&apart(self.most as u32 + 1 - less))];
         for table in tables {
             let length = self.random.pick(&[most - 1, most, most + 224, 65_536]);
             self.output = vec![self.random.byte(); length];

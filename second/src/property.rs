@@ -1,12 +1,7 @@
-//! Properties: what the 24 bytes of one say, and the rule over the eight of a record.
+//! Properties: what the 24 bytes of a property mean, and the rule over the eight of a record.
 
+use crate::layout::{PROPERTIES, PROPERTY_BYTES};
 use std::fmt;
-
-/// The bytes of one property.
-pub const PROPERTY_BYTES: usize = 24;
-
-/// The properties of one record.
-pub const PROPERTIES: usize = 8;
 
 /// Why a value is nil.
 #[derive(Clone, Copy, Debug, PartialEq)]
@@ -27,14 +22,14 @@ pub enum Unit {
     Nm,
 }
 
-/// A place on the earth, in degrees.
+/// A position on the earth, in degrees.
 #[derive(Clone, Copy, Debug, PartialEq)]
 pub struct Point {
     pub latitude: f64,
     pub longitude: f64,
 }
 
-/// What a property says.
+/// The value of a property.
 #[derive(Clone, Copy, Debug, PartialEq)]
 pub enum Value {
     Unmentioned,
@@ -50,17 +45,17 @@ pub enum Value {
 pub enum Finding {
     /// The first property that breaks the layout.
     Bad(usize),
-    /// No property does; so many are mentioned.
+    /// No property breaks it; this many are mentioned.
     Sound(usize),
 }
 
 impl Value {
-    /// Answers whether the property is mentioned; nil is a mention.
+    /// Returns whether the property is mentioned; nil is a mention.
     pub fn is_mention(&self) -> bool {
         *self != Value::Unmentioned
     }
 
-    /// Answers the bytes that say this; decoding them gives it back.
+    /// Returns the bytes of this value; decoding them gives it back.
     pub fn write(self) -> [u8; PROPERTY_BYTES] {
         match self {
             Value::Unmentioned => encode(0, 0, &[]),
@@ -76,7 +71,7 @@ impl Value {
     }
 }
 
-/// Answers a part of a form, a detail and the first bytes of the content, the rest zero.
+/// Returns a part with a form, a detail and the first bytes of the content; the rest is zero.
 fn encode(form: u8, detail: u8, content: &[u8]) -> [u8; PROPERTY_BYTES] {
     let mut part = [0; PROPERTY_BYTES];
     part[..2].copy_from_slice(&[form, detail]);
@@ -84,7 +79,7 @@ fn encode(form: u8, detail: u8, content: &[u8]) -> [u8; PROPERTY_BYTES] {
     part
 }
 
-/// Answers the value that a property part holds, or nothing where the part breaks the layout.
+/// Returns the value of a property part, or nothing if the part breaks the layout.
 pub fn decode(part: &[u8]) -> Option<Value> {
     let part: &[u8; PROPERTY_BYTES] = part.try_into().ok()?;
     let [form, detail, 0, 0, 0, 0, 0, 0, content @ ..] = *part else {
@@ -101,12 +96,12 @@ pub fn decode(part: &[u8]) -> Option<Value> {
     }
 }
 
-/// Answers "not mentioned" where nothing else is said.
+/// Returns "not mentioned" if the detail and the content are zero.
 fn unmentioned(detail: u8, content: [u8; 16]) -> Option<Value> {
     (detail == 0 && content == [0; 16]).then_some(Value::Unmentioned)
 }
 
-/// Answers the nil whose reason is the detail, where the content is empty.
+/// Returns the nil whose reason is the detail, if the content is zero.
 fn nil(detail: u8, content: [u8; 16]) -> Option<Value> {
     let reason = match detail {
         1 => Reason::Inapplicable,
@@ -119,21 +114,21 @@ fn nil(detail: u8, content: [u8; 16]) -> Option<Value> {
     (content == [0; 16]).then_some(Value::Nil(reason))
 }
 
-/// Answers the code in the first two bytes of the content, where the rest is zero.
+/// Returns the code in the first two bytes of the content, if the rest is zero.
 fn code(detail: u8, content: [u8; 16]) -> Option<Value> {
     let [a, b, rest @ ..] = content;
     let value = u16::from_be_bytes([a, b]);
     (detail == 0 && rest == [0; 14]).then_some(Value::Code(value))
 }
 
-/// Answers the whole number in the first four bytes of the content, where the rest is zero.
+/// Returns the whole number in the first four bytes of the content, if the rest is zero.
 fn number(detail: u8, content: [u8; 16]) -> Option<Value> {
     let [a, b, c, d, rest @ ..] = content;
     let value = i32::from_be_bytes([a, b, c, d]);
     (detail == 0 && rest == [0; 12]).then_some(Value::Number(value))
 }
 
-/// Answers the finite length in the first half of the content, its unit from the detail.
+/// Returns the finite length in the first half of the content; the detail gives its unit.
 fn length(detail: u8, content: [u8; 16]) -> Option<Value> {
     let unit = match detail {
         1 => Unit::M,
@@ -147,7 +142,7 @@ fn length(detail: u8, content: [u8; 16]) -> Option<Value> {
     (length.is_finite() && rest == 0).then_some(Value::Length(length, unit))
 }
 
-/// Answers the point whose latitude and longitude fill the content, where both are in range.
+/// Returns the point whose latitude and longitude fill the content, if both are in range.
 fn point(detail: u8, content: [u8; 16]) -> Option<Value> {
     let (first, second) = halves(content);
     let latitude = f64::from_bits(first);
@@ -159,13 +154,13 @@ fn point(detail: u8, content: [u8; 16]) -> Option<Value> {
     }))
 }
 
-/// Answers the two halves of the content as whole numbers of 64 bits.
+/// Returns the two halves of the content as 64-bit numbers.
 fn halves(content: [u8; 16]) -> (u64, u64) {
     let whole = u128::from_be_bytes(content);
     ((whole >> 64) as u64, whole as u64)
 }
 
-/// Answers the values of the eight properties; a broken or missing one has none.
+/// Returns the values of the eight properties; a broken or missing one has none.
 pub fn properties(bytes: &[u8]) -> [Option<Value>; PROPERTIES] {
     std::array::from_fn(|index| {
         let start = index * PROPERTY_BYTES;
@@ -173,7 +168,7 @@ pub fn properties(bytes: &[u8]) -> [Option<Value>; PROPERTIES] {
     })
 }
 
-/// Answers the first of eight properties that breaks the layout, or else the number of mentions.
+/// Returns the first of eight properties that breaks the layout, or else the number of mentions.
 pub fn find(properties: &[Option<Value>; PROPERTIES]) -> Finding {
     match properties.iter().position(Option::is_none) {
         Some(index) => Finding::Bad(index),
@@ -181,7 +176,7 @@ pub fn find(properties: &[Option<Value>; PROPERTIES]) -> Finding {
     }
 }
 
-/// Answers how many of the properties are mentioned.
+/// Returns how many of the properties are mentioned.
 fn mentions(properties: &[Option<Value>; PROPERTIES]) -> usize {
     properties
         .iter()
@@ -191,7 +186,7 @@ fn mentions(properties: &[Option<Value>; PROPERTIES]) -> usize {
 }
 
 impl fmt::Display for Reason {
-    /// Writes the reason in the paper's word.
+    /// Writes the word that the specification has for the reason.
     fn fmt(&self, out: &mut fmt::Formatter) -> fmt::Result {
         out.write_str(match self {
             Reason::Inapplicable => "inapplicable",
@@ -216,7 +211,7 @@ impl fmt::Display for Unit {
 }
 
 impl fmt::Display for Value {
-    /// Writes the value as an answer line has it, doubles as their 64 bits.
+    /// Writes the value as in an answer line; doubles are written as their 64 bits.
     fn fmt(&self, out: &mut fmt::Formatter) -> fmt::Result {
         match self {
             Value::Unmentioned => out.write_str("unmentioned"),
@@ -240,7 +235,7 @@ impl fmt::Display for Value {
 }
 
 impl fmt::Display for Finding {
-    /// Writes the finding as an answer line has it.
+    /// Writes the finding as in an answer line.
     fn fmt(&self, out: &mut fmt::Formatter) -> fmt::Result {
         match self {
             Finding::Bad(index) => write!(out, "bad {index}"),
@@ -436,7 +431,7 @@ mod tests {
         );
     }
 
-    /// Properties 3 and 6 begin at 72 and 144; the first is named.
+    /// Properties 3 and 6 begin at 72 and 144; the first is reported.
     #[test]
     fn the_rule_names_the_first_bad_property() {
         let mut bytes = vec![0; 192];
@@ -455,7 +450,7 @@ mod tests {
         assert_eq!(find(&properties(&bytes)), Finding::Sound(2));
     }
 
-    /// A property not wholly there is bad; byte 192 belongs to none.
+    /// A property that is cut off is bad; byte 192 belongs to no property.
     #[test]
     fn the_rule_wants_eight_whole_properties_and_looks_no_further() {
         for (length, index) in [(0, 0), (23, 0), (24, 1), (47, 1), (168, 7), (191, 7)] {

@@ -1,13 +1,13 @@
 //! The questions about an instant: the permanent state, the snapshot, and one property.
 
-use crate::property::{PROPERTIES, PROPERTY_BYTES};
-use crate::record::{Instant, Record, Side, HEAD_BYTES, RECORD_BYTES};
+use crate::layout::{bytes_of, HEAD_BYTES, PROPERTIES, PROPERTY_BYTES, RECORD_BYTES};
+use crate::record::{Instant, Record, Side};
 use crate::refusal::{hold, Refusal};
 use crate::state::{lasting, mentions, passing, State};
-use crate::table::{Sides, Table, HEADER_BYTES};
+use crate::table::{Sides, Table};
 use std::fmt;
 
-/// A property's bytes, and where they stand in the table of a side.
+/// A property's bytes, and where they are in the table of a side.
 #[derive(Clone, Copy, Debug, PartialEq)]
 pub struct Part {
     pub side: Side,
@@ -15,7 +15,7 @@ pub struct Part {
     pub bytes: [u8; PROPERTY_BYTES],
 }
 
-/// Answers a permanent and a temporary table of one feature, or the first refusal, 1 to 8.
+/// Returns a permanent and a temporary table of one feature, or the first refusal, 1 to 8.
 fn both(permanent: &[u8], temporary: &[u8]) -> Result<(Table, Table), Refusal> {
     let permanent = Table::read(permanent, Sides::Permanent)?;
     let temporary = Table::read(temporary, Sides::Temporary)?;
@@ -26,23 +26,23 @@ fn both(permanent: &[u8], temporary: &[u8]) -> Result<(Table, Table), Refusal> {
     Ok((permanent, temporary))
 }
 
-/// Answers the instant that is asked for, or 19 where it is "none".
+/// Returns the instant of a question, or 19 if it is "none".
 fn asked(instant: u32) -> Result<Instant, Refusal> {
     Instant::given(instant).ok_or(Refusal::Asked)
 }
 
-/// Answers 23 where a state is not to be written into exactly one record.
+/// Returns 23 if the buffer is not exactly one record long.
 fn fits(record: &[u8]) -> Result<(), Refusal> {
     hold(record.len() == RECORD_BYTES, Refusal::Buffer)
 }
 
-/// Writes what applied records leave as the record of an instant.
+/// Writes the state after some records are applied, as the record of an instant.
 fn write(applied: &[&Record], instant: Instant, record: &mut [u8]) {
     let state = State::after(applied).record(instant);
     record.copy_from_slice(&state.write());
 }
 
-/// Writes the permanent state at an instant; a refused question changes no byte.
+/// Writes the permanent state at an instant; if the question is refused, no byte changes.
 pub fn permanent_state(permanent: &[u8], instant: u32, record: &mut [u8]) -> Result<(), Refusal> {
     let table = Table::read(permanent, Sides::Permanent)?;
     let instant = asked(instant)?;
@@ -51,7 +51,7 @@ pub fn permanent_state(permanent: &[u8], instant: u32, record: &mut [u8]) -> Res
     Ok(())
 }
 
-/// Writes the snapshot at an instant; a refused question changes no byte.
+/// Writes the snapshot at an instant; if the question is refused, no byte changes.
 pub fn snapshot(
     permanent: &[u8],
     temporary: &[u8],
@@ -67,7 +67,7 @@ pub fn snapshot(
     Ok(())
 }
 
-/// Answers the part of the table whose record mentions the property last, if one does.
+/// Returns the property from the last record that mentions it, if one does.
 pub fn property(
     permanent: &[u8],
     temporary: &[u8],
@@ -89,21 +89,21 @@ pub fn property(
 }
 
 impl Part {
-    /// Answers the part of a property that a record of the table mentions.
+    /// Returns a property that a record of the table mentions.
     fn of(table: &Table, record: &Record, property: usize) -> Part {
         let index = table.records.keys().position(|key| *key == record.key());
         let index = index.expect("the record is one of the table");
         let value = record.properties[property].expect("a mentioned property has a value");
         Part {
             side: table.side,
-            place: HEADER_BYTES + index * RECORD_BYTES + HEAD_BYTES + property * PROPERTY_BYTES,
+            place: bytes_of(index) + HEAD_BYTES + property * PROPERTY_BYTES,
             bytes: value.write(),
         }
     }
 }
 
 impl fmt::Display for Side {
-    /// Writes the side in the paper's word.
+    /// Writes the word that the specification has for the side.
     fn fmt(&self, out: &mut fmt::Formatter) -> fmt::Result {
         out.write_str(match self {
             Side::Permanent => "permanent",

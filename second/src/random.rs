@@ -1,6 +1,6 @@
-//! A small generator of numbers that are the same in each run (splitmix64).
+//! A small generator of random numbers that are the same in every run (splitmix64).
 
-/// The generator and where it stands; bytes that it was given come before its own numbers.
+/// The state of the generator; bytes that it was given come before its own numbers.
 pub struct Random {
     state: u64,
     given: Vec<u8>,
@@ -15,7 +15,7 @@ impl Random {
         }
     }
 
-    /// Starts a generator whose first numbers are these bytes, a small number one of them.
+    /// Starts a generator whose first numbers come from these bytes, one byte for a small number.
     #[cfg(any(test, feature = "fuzz"))]
     pub fn given(bytes: &[u8]) -> Random {
         Random {
@@ -24,13 +24,13 @@ impl Random {
         }
     }
 
-    /// Answers whether any of the bytes are left that it was given.
+    /// Returns whether any of the given bytes are left.
     #[cfg(any(test, feature = "fuzz"))]
     pub fn is_given(&self) -> bool {
         !self.given.is_empty()
     }
 
-    /// Answers a number of so many of the bytes it was given, or else the next 64 bits.
+    /// Returns a number made of this many of the given bytes, or else the next 64 bits.
     fn next(&mut self, bytes: usize) -> u64 {
         let Some(rest) = self.given.len().checked_sub(bytes) else {
             self.given.clear();
@@ -41,7 +41,7 @@ impl Random {
         taken.iter().rev().fold(0, number)
     }
 
-    /// Answers the next 64 bits of the generator.
+    /// Returns the next 64 bits of the generator.
     fn mixed(&mut self) -> u64 {
         self.state = self.state.wrapping_add(0x9e37_79b9_7f4a_7c15);
         let mixed = (self.state ^ (self.state >> 30)).wrapping_mul(0xbf58_476d_1ce4_e5b9);
@@ -49,37 +49,37 @@ impl Random {
         mixed ^ (mixed >> 31)
     }
 
-    /// Answers the next 64 bits.
+    /// Returns the next 64 bits.
     pub fn bits(&mut self) -> u64 {
         self.next(8)
     }
 
-    /// Answers a number below the limit, which is not zero.
+    /// Returns a number below the limit, which is not zero.
     pub fn below(&mut self, limit: usize) -> usize {
         let bytes = if limit <= 256 { 1 } else { 4 };
         (self.next(bytes) % limit as u64) as usize
     }
 
-    /// Answers a byte.
+    /// Returns a byte.
     pub fn byte(&mut self) -> u8 {
         self.next(1) as u8
     }
 
-    /// Fills a place with bytes.
-    pub fn fill(&mut self, place: &mut [u8]) {
-        place.fill_with(|| self.byte());
+    /// Fills a buffer with random bytes.
+    pub fn fill(&mut self, buffer: &mut [u8]) {
+        buffer.fill_with(|| self.byte());
     }
 
-    /// Answers one of the choices, of which there is at least one.
+    /// Returns one of the choices; there must be at least one.
     pub fn pick<T: Copy>(&mut self, choices: &[T]) -> T {
         choices[self.below(choices.len())]
     }
 
-    /// Turns over so many bits of a place that is not empty, wherever they fall.
-    pub fn flip(&mut self, place: &mut [u8], flips: usize) {
+    /// Flips this many bits of a buffer that is not empty, anywhere in it.
+    pub fn flip(&mut self, buffer: &mut [u8], flips: usize) {
         for _ in 0..flips {
-            let bit = self.below(8 * place.len());
-            place[bit / 8] ^= 1 << (bit % 8);
+            let bit = self.below(8 * buffer.len());
+            buffer[bit / 8] ^= 1 << (bit % 8);
         }
     }
 }
@@ -96,7 +96,7 @@ mod tests {
         assert_eq!(random.bits(), 3_203_168_211_198_807_973);
     }
 
-    /// Bytes that are given come first, one or more for a number, and then the generator's own.
+    /// Given bytes come first, one or more for a number, then the generator's own numbers.
     #[test]
     fn given_bytes_come_first() {
         let mut random = Random::given(&[7, 9, 0, 0, 1, 44, 5]);
@@ -109,8 +109,8 @@ mod tests {
     /// One flip, one bit.
     #[test]
     fn flips_turn_bits_over() {
-        let mut place = [0; 24];
-        Random::new(1).flip(&mut place, 1);
-        assert_eq!(place.iter().map(|byte| byte.count_ones()).sum::<u32>(), 1);
+        let mut buffer = [0; 24];
+        Random::new(1).flip(&mut buffer, 1);
+        assert_eq!(buffer.iter().map(|byte| byte.count_ones()).sum::<u32>(), 1);
     }
 }

@@ -1,14 +1,9 @@
-//! Records: the kind, the numbers and the times of one, and its properties.
+//! Records: the kind, the numbers, the times and the properties of a record.
 
-use crate::property::{properties, Value, PROPERTIES};
+use crate::layout::{HEAD_BYTES, PROPERTIES, RECORD_BYTES};
+use crate::property::{properties, Value};
 
-/// The bytes of one record.
-pub const RECORD_BYTES: usize = 224;
-
-/// The bytes of a record before its properties.
-pub const HEAD_BYTES: usize = 32;
-
-/// The number that stands for "none" where a time could be.
+/// The number that means "none" in place of a time.
 pub const NONE: u32 = u32::MAX;
 
 /// A correction number.
@@ -38,7 +33,7 @@ pub enum Kind {
     TempDelta,
 }
 
-/// What a record is filed under; keys rise by kind, then by sequence number.
+/// The key of a record in its table; keys are ordered by kind, then by sequence number.
 #[derive(Clone, Copy, Debug, PartialEq, Eq, PartialOrd, Ord)]
 pub struct Key {
     pub kind: u8,
@@ -64,7 +59,7 @@ pub struct Head {
     pub spare: [u8; 8],
 }
 
-/// A record, whatever its bytes; a property that breaks the layout has no value.
+/// A record, sound or not; a property that breaks the layout has no value.
 #[derive(Clone, Copy, Debug, PartialEq)]
 pub struct Record {
     pub head: Head,
@@ -72,7 +67,7 @@ pub struct Record {
 }
 
 impl Side {
-    /// Answers the side that a byte names, if it names one.
+    /// Returns the side that a byte names, if it names one.
     pub fn of(byte: u8) -> Option<Side> {
         match byte {
             0 => Some(Side::Permanent),
@@ -81,7 +76,7 @@ impl Side {
         }
     }
 
-    /// Answers the byte that names the side.
+    /// Returns the byte that names the side.
     pub fn byte(self) -> u8 {
         match self {
             Side::Permanent => 0,
@@ -94,12 +89,12 @@ impl Kind {
     /// Every kind.
     pub const ALL: [Kind; 3] = [Kind::Baseline, Kind::PermDelta, Kind::TempDelta];
 
-    /// Answers the kind that a byte names, if it names one.
+    /// Returns the kind that a byte names, if it names one.
     pub fn of(byte: u8) -> Option<Kind> {
         Kind::ALL.into_iter().find(|kind| kind.byte() == byte)
     }
 
-    /// Answers the byte that names the kind.
+    /// Returns the byte that names the kind.
     pub fn byte(self) -> u8 {
         match self {
             Kind::Baseline => 1,
@@ -108,7 +103,7 @@ impl Kind {
         }
     }
 
-    /// Answers the side whose table holds records of the kind.
+    /// Returns the side whose table holds records of the kind.
     pub fn side(self) -> Side {
         match self {
             Kind::Baseline | Kind::PermDelta => Side::Permanent,
@@ -118,7 +113,7 @@ impl Kind {
 }
 
 impl Instant {
-    /// Answers the instant that a number names, or none.
+    /// Returns the instant that a number names, or none.
     pub fn given(number: u32) -> Option<Instant> {
         (number != NONE).then_some(Instant(number))
     }
@@ -131,7 +126,7 @@ impl Span {
         end: None,
     };
 
-    /// Answers the span of two times, either of which may be "none".
+    /// Returns the span of two times, either of which may be "none".
     pub fn new(begin: u32, end: u32) -> Span {
         Span {
             begin: Instant::given(begin),
@@ -139,13 +134,13 @@ impl Span {
         }
     }
 
-    /// Answers whether an instant lies in the span: its begin does, its end does not, and an end of none
-    /// runs on without limit.
+    /// Returns whether an instant is in the span, which includes its begin and excludes its end. An
+    /// end of none means no limit.
     pub fn has(self, instant: Instant) -> bool {
         self.begin.is_some_and(|begin| begin <= instant) && self.end.is_none_or(|end| instant < end)
     }
 
-    /// Answers the span that eight bytes hold.
+    /// Returns the span that eight bytes hold.
     fn read(bytes: [u8; 8]) -> Span {
         let [a, b, c, d, e, f, g, h] = bytes;
         Span::new(
@@ -154,7 +149,7 @@ impl Span {
         )
     }
 
-    /// Answers the eight bytes that hold the span.
+    /// Returns the eight bytes that hold the span.
     fn write(self) -> Vec<u8> {
         let number = |time: Option<Instant>| time.map_or(NONE, |instant| instant.0);
         [
@@ -166,7 +161,7 @@ impl Span {
 }
 
 impl Head {
-    /// Answers what the bytes before the properties say.
+    /// Returns the head that the bytes before the properties hold.
     pub fn read(bytes: &[u8; HEAD_BYTES]) -> Head {
         let [kind, flags, c0, c1, s0, s1, s2, s3, rest @ ..] = *bytes;
         let [period, life, spare] = eights(rest);
@@ -181,7 +176,7 @@ impl Head {
         }
     }
 
-    /// Answers the bytes that say this; reading them gives it back.
+    /// Returns the bytes that say this; reading them gives it back.
     pub fn write(&self) -> Vec<u8> {
         let mut bytes = vec![self.kind, self.flags];
         bytes.extend(self.correction.0.to_be_bytes());
@@ -192,19 +187,19 @@ impl Head {
         bytes
     }
 
-    /// Answers whether the record is cancelled.
+    /// Returns whether the record is cancelled.
     pub fn is_cancelled(&self) -> bool {
         self.flags & 1 == 1
     }
 }
 
-/// Answers 24 bytes as three times eight.
+/// Splits 24 bytes into three groups of eight.
 fn eights(bytes: [u8; 24]) -> [[u8; 8]; 3] {
     std::array::from_fn(|row| std::array::from_fn(|column| bytes[8 * row + column]))
 }
 
 impl Record {
-    /// Answers what the bytes of a record say.
+    /// Returns the record that the bytes hold.
     pub fn read(bytes: &[u8; RECORD_BYTES]) -> Record {
         let (head, rest) = bytes
             .split_first_chunk()
@@ -215,7 +210,7 @@ impl Record {
         }
     }
 
-    /// Answers the bytes of a record whose properties all have values; reading them gives it back.
+    /// Returns the bytes of a record whose properties all have values; reading them gives it back.
     pub fn write(&self) -> Vec<u8> {
         let mut bytes = self.head.write();
         for property in self.properties {
@@ -225,7 +220,7 @@ impl Record {
         bytes
     }
 
-    /// Answers what the record is filed under.
+    /// Returns the key of the record.
     pub fn key(&self) -> Key {
         Key {
             kind: self.head.kind,

@@ -1,6 +1,6 @@
-//! What a call is refused for.
+//! The reasons for which a call is refused.
 
-/// A refusal, with the paper's number.
+/// A refusal, with its number in the specification.
 #[derive(Clone, Copy, Debug, PartialEq)]
 pub enum Refusal {
     Short = 1,
@@ -30,13 +30,13 @@ pub enum Refusal {
 }
 
 impl Refusal {
-    /// Answers the paper's number.
+    /// Returns its number in the specification.
     pub fn number(self) -> u8 {
         self as u8
     }
 }
 
-/// Answers the refusal where its rule does not hold.
+/// Returns the refusal if its rule does not hold.
 pub fn hold(rule: bool, refusal: Refusal) -> Result<(), Refusal> {
     if rule {
         Ok(())
@@ -45,7 +45,7 @@ pub fn hold(rule: bool, refusal: Refusal) -> Result<(), Refusal> {
     }
 }
 
-/// Answers the number of a check, 0 where nothing is refused.
+/// Returns the number of a check, 0 if nothing is refused.
 pub fn number_of(check: Result<(), Refusal>) -> u8 {
     check.map_or_else(Refusal::number, |()| 0)
 }

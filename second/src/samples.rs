@@ -1,18 +1,18 @@
 //! Sample tables: the runway of one feature, from 100 on.
 
 use crate::files::File;
+use crate::fixtures::brief::cancelling;
+use crate::fixtures::{code, length, nil, unmentioned, Area, Case, Part, Time};
 use crate::record::{Kind, NONE};
 use crate::table::Feature;
-use crate::tables::Tables;
-use crate::vectors::brief::cancelling;
-use crate::vectors::sample::{code, length, nil, unmentioned, Area, Case, Part, Time};
+use crate::tables::permanent;
 
 /// The feature of the samples.
 const FEATURE: Feature = [
     0x5e, 0x1f, 0x0a, 0x3c, 0x7b, 0x2d, 0x4c, 0x8e, 0x9f, 0x60, 0x11, 0x22, 0x33, 0x44, 0x55, 0x66,
 ];
 
-/// Answers the sample tables as files.
+/// Returns the sample tables as files.
 pub fn files() -> Vec<File> {
     let (begun, shortened) = (runway(), shortening());
     let cancelled = cancelling(&shortened, 1);
@@ -33,7 +33,7 @@ pub fn files() -> Vec<File> {
 
 /// Makes the permanent table of some slices, of the samples' feature.
 fn table(cases: &[Case]) -> Vec<u8> {
-    let mut table = Tables::of(cases).permanent;
+    let mut table = permanent(cases);
     table[8..24].copy_from_slice(&FEATURE);
     table
 }
@@ -51,7 +51,7 @@ fn first(others: Part) -> Area {
     area
 }
 
-/// Makes a slice of sequence number 1 that nobody corrected.
+/// Makes a slice with sequence number 1 and correction 0.
 fn slice(kind: Kind, begin: u32, area: &Area) -> Case {
     Case::any(kind)
         .with_sequence(1)
@@ -108,7 +108,7 @@ mod tests {
         assert_eq!(names, expected);
     }
 
-    /// The stored samples are these.
+    /// The stored samples are the same.
     #[test]
     fn samples_are_stored() {
         for file in files() {

@@ -1,16 +1,11 @@
 //! The slice check: the refusals 9 to 16 on a slice in delivery.
 
-use crate::property::{find, Finding, Value, PROPERTIES};
-use crate::record::{Head, Instant, Kind, Record, Side, Span, RECORD_BYTES};
+use crate::layout::{FEATURE_BYTES, PROPERTIES, SLICE_BYTES};
+use crate::property::{find, Finding, Value};
+use crate::record::{Head, Instant, Kind, Record, Side, Span};
 use crate::refusal::{hold, Refusal};
 
-/// The bytes of a feature identifier.
-pub const FEATURE_BYTES: usize = 16;
-
-/// The bytes of a slice in delivery: the feature identifier, then a record.
-pub const SLICE_BYTES: usize = FEATURE_BYTES + RECORD_BYTES;
-
-/// Answers the first refusal that a slice meets on its way to a side of a feature, if any.
+/// Returns the first refusal, 9 to 16, of a slice that is delivered to a side of a feature, if any.
 pub fn check(slice: &[u8], feature: &[u8], side: u8) -> Result<(), Refusal> {
     let slice: &[u8; SLICE_BYTES] = slice.try_into().map_err(|_| Refusal::Length)?;
     let record = slice.last_chunk().expect("a slice ends with a record");
@@ -18,7 +13,7 @@ pub fn check(slice: &[u8], feature: &[u8], side: u8) -> Result<(), Refusal> {
     check_record(&Record::read(record), side)
 }
 
-/// Answers the first refusal, 11 to 16, that a record meets on its way to a side, if any.
+/// Returns the first refusal, 11 to 16, of a record that is delivered to a side, if any.
 pub fn check_record(record: &Record, side: u8) -> Result<(), Refusal> {
     let Record { head, properties } = record;
     let kind = kind_of_side(head.kind, side).ok_or(Refusal::Kind)?;
@@ -39,17 +34,17 @@ pub fn check_record(record: &Record, side: u8) -> Result<(), Refusal> {
     )
 }
 
-/// Answers the kind that a byte names, where that kind is of the side.
+/// Returns the kind that a byte names, if that kind belongs to the side.
 fn kind_of_side(kind: u8, side: u8) -> Option<Kind> {
     Kind::of(kind).filter(|kind| Side::of(side) == Some(kind.side()))
 }
 
-/// Answers whether the flag bits 1 to 7 and the spare bytes are zero.
+/// Returns whether the flag bits 1 to 7 and the spare bytes are zero.
 fn spare_is_zero(head: &Head) -> bool {
     head.flags <= 1 && head.spare == [0; 8]
 }
 
-/// Answers whether a record has no time (all 255) and no property (all zero).
+/// Returns whether a record has no time (all 255) and no property (all zero).
 fn is_empty(record: &Record) -> bool {
     record.head.period == Span::NEITHER
         && record.head.life == Span::NEITHER
@@ -59,7 +54,7 @@ fn is_empty(record: &Record) -> bool {
             .all(|property| *property == Some(Value::Unmentioned))
 }
 
-/// Answers whether the times of a record of the kind are right.
+/// Returns whether the times of a record of the kind are right.
 fn times_are_right(kind: Kind, period: Span, life: Span) -> bool {
     let Some(begin) = period.begin else {
         return false;
@@ -71,7 +66,7 @@ fn times_are_right(kind: Kind, period: Span, life: Span) -> bool {
     }
 }
 
-/// Answers whether a BASELINE's end and life go with its begin and with each other.
+/// Returns whether a BASELINE's end and life fit its begin and each other.
 fn baseline_times(begin: Instant, end: Option<Instant>, life: Span) -> bool {
     end.is_none_or(|end| end > begin)
         && life.begin.is_none_or(|life_begin| life_begin <= begin)
@@ -81,7 +76,7 @@ fn baseline_times(begin: Instant, end: Option<Instant>, life: Span) -> bool {
             .is_none_or(|(end, life_end)| end <= life_end)
 }
 
-/// Answers whether a PERMDELTA has no end, and at most one life time, its own instant.
+/// Returns whether a PERMDELTA has no end, and at most one life time, its own instant.
 fn permdelta_times(instant: Instant, end: Option<Instant>, life: Span) -> bool {
     let life_is_right = match (life.begin, life.end) {
         (None, None) => true,
@@ -91,12 +86,12 @@ fn permdelta_times(instant: Instant, end: Option<Instant>, life: Span) -> bool {
     end.is_none() && life_is_right
 }
 
-/// Answers whether a TEMPDELTA's end comes after its begin, and it has no life.
+/// Returns whether a TEMPDELTA's end comes after its begin, and it has no life.
 fn tempdelta_times(begin: Instant, end: Option<Instant>, life: Span) -> bool {
     end.is_none_or(|end| end > begin) && life == Span::NEITHER
 }
 
-/// Answers whether a record of the kind says enough.
+/// Returns whether a record of the kind mentions enough.
 fn content_is_right(kind: Kind, mentions: usize, life: Span) -> bool {
     match kind {
         Kind::Baseline => mentions == PROPERTIES,
@@ -108,6 +103,8 @@ fn content_is_right(kind: Kind, mentions: usize, life: Span) -> bool {
 #[cfg(test)]
 mod tests {
     use super::*;
+    use crate::fixtures::brief::{base, cancelling, change, closing, opening, passing};
+    use crate::fixtures::{cancelled_cases, sound_cases, Case};
     use crate::refusal::number_of;
 
     const FEATURE: [u8; 16] = [7; 16];
@@ -145,17 +142,17 @@ mod tests {
         })
     }
 
-    /// Answers the number of the check, 0 where the slice is sound.
+    /// Returns the number of the check, 0 if the slice is sound.
     fn number(slice: &[u8], side: u8) -> u8 {
         number_of(check(slice, &FEATURE, side))
     }
 
-    /// Answers the number for a slice of a kind, its times and its mentions, on its own side.
+    /// Returns the number for a slice of a kind, its times and its mentions, on its own side.
     fn times(kind: u8, times: [u32; 4], mentions: usize) -> u8 {
         number(&slice(kind, times, mentions), u8::from(kind == 3))
     }
 
-    /// Answers the number once a byte of a slice is set.
+    /// Returns the number for a slice with one byte changed.
     fn changed(slice: &[u8], side: u8, offset: usize, value: u8) -> u8 {
         let mut slice = slice.to_vec();
         slice[offset] = value;
@@ -244,18 +241,26 @@ mod tests {
         }
     }
 
+    /// Checks that some times are right for a kind with this many mentions, and that others are
+    /// not.
+    fn hold_times(kind: u8, mentions: usize, right: &[[u32; 4]], wrong: &[[u32; 4]]) {
+        for (some, number) in [(right, 0), (wrong, 15)] {
+            for &one in some {
+                assert_eq!(times(kind, one, mentions), number, "{one:?}");
+            }
+        }
+    }
+
     /// Each clause of a BASELINE's times, kept and broken.
     #[test]
     fn fifteen_is_for_a_baselines_times() {
-        for right in [
+        let right = [
             [100, NONE, NONE, NONE],
             [100, 101, 100, 101],
             [100, 200, 0, 200],
             [0, 1, 0, NONE],
-        ] {
-            assert_eq!(times(1, right, 8), 0);
-        }
-        for wrong in [
+        ];
+        let wrong = [
             [NONE, NONE, NONE, NONE],
             [100, 100, NONE, NONE],
             [100, 99, NONE, NONE],
@@ -263,9 +268,8 @@ mod tests {
             [100, NONE, NONE, 100],
             [100, NONE, NONE, 99],
             [100, 201, NONE, 200],
-        ] {
-            assert_eq!(times(1, wrong, 8), 15);
-        }
+        ];
+        hold_times(1, 8, &right, &wrong);
         // An end of none is not "at most" anything: it is not given.
         assert_eq!(times(1, [100, NONE, 100, 200], 8), 0);
     }
@@ -273,43 +277,37 @@ mod tests {
     /// Each clause of a PERMDELTA's times, kept and broken.
     #[test]
     fn fifteen_is_for_a_permdeltas_times() {
-        for right in [
+        let right = [
             [150, NONE, NONE, NONE],
             [150, NONE, 150, NONE],
             [150, NONE, NONE, 150],
-        ] {
-            assert_eq!(times(2, right, 1), 0);
-        }
-        for wrong in [
+        ];
+        let wrong = [
             [NONE, NONE, NONE, NONE],
             [150, 151, NONE, NONE],
             [150, NONE, 149, NONE],
             [150, NONE, NONE, 151],
             [150, NONE, 150, 150],
-        ] {
-            assert_eq!(times(2, wrong, 1), 15);
-        }
+        ];
+        hold_times(2, 1, &right, &wrong);
     }
 
     /// Each clause of a TEMPDELTA's times, kept and broken.
     #[test]
     fn fifteen_is_for_a_tempdeltas_times() {
-        for right in [
+        let right = [
             [120, NONE, NONE, NONE],
             [120, 121, NONE, NONE],
             [0, 4_294_967_294, NONE, NONE],
-        ] {
-            assert_eq!(times(3, right, 1), 0);
-        }
-        for wrong in [
+        ];
+        let wrong = [
             [NONE, NONE, NONE, NONE],
             [120, 120, NONE, NONE],
             [120, 119, NONE, NONE],
             [120, NONE, 120, NONE],
             [120, NONE, NONE, 120],
-        ] {
-            assert_eq!(times(3, wrong, 1), 15);
-        }
+        ];
+        hold_times(3, 1, &right, &wrong);
     }
 
     /// Every property, one or more, one or more or a life time.
@@ -321,5 +319,27 @@ mod tests {
         assert_eq!(times(3, [120, NONE, NONE, NONE], 0), 16);
         assert_eq!(times(2, [150, NONE, 150, NONE], 0), 0);
         assert_eq!(times(2, [150, NONE, NONE, 150], 0), 0);
+    }
+
+    /// Every fixture that is called sound is.
+    #[test]
+    fn sound_fixtures_pass() {
+        let brief = [
+            base(),
+            change(2, 150, 2),
+            opening(3, 100, 3),
+            closing(4, 300),
+            passing(5, 120, 140, 5),
+            passing(5, 120, NONE, 5),
+            cancelling(&change(2, 150, 2), 1),
+        ];
+        let cases = sound_cases()
+            .into_iter()
+            .chain(cancelled_cases())
+            .chain(Kind::ALL.map(Case::any))
+            .chain(brief);
+        for case in cases {
+            assert_eq!(check(&case.slice, &case.feature, case.side), Ok(()));
+        }
     }
 }

@@ -1,7 +1,8 @@
-//! What is known at an instant: the anchor, the records that are applied after it, one by one in
-//! their order, and what comes out of them.
+//! The state at an instant: the anchor, the records that are applied after it in order, and the
+//! result.
 
-use crate::property::{Reason, Value, PROPERTIES};
+use crate::layout::PROPERTIES;
+use crate::property::{Reason, Value};
 use crate::record::{Correction, Head, Instant, Kind, Record, Sequence, Span};
 use crate::refusal::{hold, Refusal};
 use crate::table::Table;
@@ -9,7 +10,7 @@ use crate::table::Table;
 /// The kind byte of a state that is written as a record.
 const STATE: u8 = 4;
 
-/// The life times and the properties that applied records leave; a property that none of them
+/// The life times and the properties after some records are applied; a property that none of them
 /// mentions has no value.
 #[derive(Clone, Copy, Debug, PartialEq)]
 pub struct State {
@@ -17,7 +18,8 @@ pub struct State {
     properties: [Option<Value>; PROPERTIES],
 }
 
-/// Answers the counted records of a kind whose period has the instant, by rising sequence number.
+/// Returns the counted records of a kind whose period has the instant, in the order of their
+/// sequence numbers.
 fn counted(table: &Table, kind: Kind, instant: Instant) -> impl Iterator<Item = &Record> {
     let is_counted = |record: &&Record| !record.head.is_cancelled();
     table
@@ -27,14 +29,15 @@ fn counted(table: &Table, kind: Kind, instant: Instant) -> impl Iterator<Item = 
         .filter(move |record| record.head.kind == kind.byte() && record.head.period.has(instant))
 }
 
-/// Answers the only one of some anchors, if there is one; 21 where there are more.
+/// Returns the only anchor, if there is one, or 21 if there are more.
 fn only<'a>(anchors: impl Iterator<Item = &'a Record>) -> Result<Option<&'a Record>, Refusal> {
     let anchors: Vec<&Record> = anchors.collect();
     hold(anchors.len() <= 1, Refusal::TwoAnchors)?;
     Ok(anchors.first().copied())
 }
 
-/// Answers the anchor: the BASELINE at the instant, or else the opening PERMDELTA by then; or 21 or 20.
+/// Returns the anchor, the BASELINE at the instant or else the opening PERMDELTA by then; or 21 or
+/// 20.
 fn anchor(table: &Table, instant: Instant) -> Result<&Record, Refusal> {
     if let Some(baseline) = only(counted(table, Kind::Baseline, instant))? {
         return Ok(baseline);
@@ -44,12 +47,13 @@ fn anchor(table: &Table, instant: Instant) -> Result<&Record, Refusal> {
     only(openings)?.ok_or(Refusal::NoState)
 }
 
-/// Answers what PERMDELTAs are applied by: the instant, then the sequence number.
+/// Returns what orders PERMDELTAs: the instant, then the sequence number.
 fn turn(record: &Record) -> (Option<Instant>, Sequence) {
     (record.head.period.begin, record.head.sequence)
 }
 
-/// Answers whether a PERMDELTA is applied after an anchor: a BASELINE has in it what is at its begin.
+/// Returns whether a PERMDELTA is applied after an anchor. A BASELINE already contains the changes
+/// at its begin.
 fn follows(change: &Record, anchor: &Record) -> bool {
     if anchor.head.kind == Kind::Baseline.byte() {
         change.head.period.begin > anchor.head.period.begin
@@ -58,7 +62,8 @@ fn follows(change: &Record, anchor: &Record) -> bool {
     }
 }
 
-/// Answers the records of the permanent state as they are applied, the anchor first; or 21, 20 or 22.
+/// Returns the records of the permanent state in the order in which they are applied, the anchor
+/// first; or 21, 20 or 22.
 pub fn lasting(table: &Table, instant: Instant) -> Result<Vec<&Record>, Refusal> {
     let anchor = anchor(table, instant)?;
     let mut applied: Vec<&Record> = counted(table, Kind::PermDelta, instant)
@@ -71,31 +76,31 @@ pub fn lasting(table: &Table, instant: Instant) -> Result<Vec<&Record>, Refusal>
     Ok(applied)
 }
 
-/// Answers the TEMPDELTAs of the instant as they are applied.
+/// Returns the TEMPDELTAs of the instant in the order in which they are applied.
 pub fn passing(table: &Table, instant: Instant) -> Vec<&Record> {
     counted(table, Kind::TempDelta, instant).collect()
 }
 
-/// Answers whether a record mentions a property.
+/// Returns whether a record mentions a property.
 pub fn mentions(record: &Record, property: usize) -> bool {
     record.properties[property].is_some_and(|value| value.is_mention())
 }
 
 impl State {
-    /// Nothing is known.
+    /// The state before any record is applied.
     const NOTHING: State = State {
         life: Span::NEITHER,
         properties: [None; PROPERTIES],
     };
 
-    /// Answers what records leave that are applied one after the other.
+    /// Returns the state after some records are applied in order.
     pub fn after(applied: &[&Record]) -> State {
         applied
             .iter()
             .fold(State::NOTHING, |state, record| state.with(record))
     }
 
-    /// Answers the state once a record replaced what it mentions, and each life time that it gives.
+    /// Returns the state after a record replaces what it mentions and each life time it gives.
     fn with(self, record: &Record) -> State {
         let given = record.head.life;
         let mut properties = self.properties;
@@ -111,7 +116,7 @@ impl State {
         State { life, properties }
     }
 
-    /// Answers the state as the record of an instant.
+    /// Returns the state as the record of an instant.
     pub fn record(&self, instant: Instant) -> Record {
         let period = Span {
             begin: Some(instant),
@@ -120,13 +125,13 @@ impl State {
         self.written(STATE, Sequence(0), period)
     }
 
-    /// Answers the state as the BASELINE of a period.
+    /// Returns the state as the BASELINE of a period.
     pub fn baseline(&self, sequence: Sequence, period: Span) -> Record {
         self.written(Kind::Baseline.byte(), sequence, period)
     }
 
-    /// Answers the state as a record of a kind, which nobody corrected; what nothing mentions is nil,
-    /// unknown.
+    /// Returns the state as a record of a kind, with correction 0; a property that nothing mentions
+    /// is nil, unknown.
     fn written(&self, kind: u8, sequence: Sequence, period: Span) -> Record {
         let head = Head {
             kind,
@@ -199,14 +204,15 @@ mod tests {
         }
     }
 
-    /// Answers the sequence numbers of what is applied at an instant, or the number of the refusal.
+    /// Returns the sequence numbers of what is applied at an instant, or the number of the refusal.
     fn applied(records: &[Record], instant: u32) -> Result<Vec<u32>, u8> {
         let table = table(records);
         let applied = lasting(&table, Instant(instant)).map_err(Refusal::number)?;
         Ok(applied.iter().map(|one| one.head.sequence.0).collect())
     }
 
-    /// "rising by instant, then sequence number: those strictly later than a BASELINE anchor's begin".
+    /// "rising by instant, then sequence number: those strictly later than a BASELINE anchor's
+    /// begin".
     #[test]
     fn changes_after_a_baseline_go_by_instant_then_sequence() {
         let anchor = baseline(7, [100, NONE, NONE, NONE]);
@@ -298,7 +304,8 @@ mod tests {
         assert_eq!(number_of(none), 20);
     }
 
-    /// "TEMPDELTAs with begin at most t and t before end (none runs on), rising by sequence number".
+    /// "TEMPDELTAs with begin at most t and t before end (none runs on), rising by sequence
+    /// number".
     #[test]
     fn passing_records_go_by_sequence() {
         let delta =

@@ -1,15 +1,15 @@
-//! Random supplies: sound slices, sound tables, deliveries of many slices, and damage to all of them.
+//! Random sound slices, sound tables and deliveries of many slices, and damage to all of them.
 
+use crate::fixtures::{self, Area, Case, FEATURE, FLAGS, KIND, RECORD, SPARE, TIMES};
+use crate::layout::{bytes_of, HEADER_BYTES, PROPERTIES, RECORD_BYTES};
 use crate::random::Random;
-use crate::record::{Kind, Side, NONE, RECORD_BYTES};
-use crate::table::HEADER_BYTES;
-use crate::vectors::sample::{self, Area, Case, FEATURE, RECORD};
+use crate::record::{Kind, Side, NONE};
 use std::collections::BTreeSet;
 
 /// A kind with a sequence number.
 pub type Key = (Kind, u32);
 
-/// Sequence numbers at the ends and about each change of length.
+/// Sequence numbers at both ends, and around each power of 256.
 pub const EDGES: [u32; 12] = [
     0,
     1,
@@ -25,7 +25,7 @@ pub const EDGES: [u32; 12] = [
     NONE,
 ];
 
-/// Answers the kinds of a side.
+/// Returns the kinds of a side.
 pub fn kinds(side: Side) -> &'static [Kind] {
     match side {
         Side::Permanent => &[Kind::Baseline, Kind::PermDelta],
@@ -64,11 +64,11 @@ fn uncancelled(random: &mut Random, kind: Kind) -> Case {
 
 /// Makes eight sound parts, enough of them mentioned for the kind.
 pub fn parts(random: &mut Random, kind: Kind) -> Area {
-    let sound = sample::sound_parts();
-    let (mut area, sure) = (sample::mentions(), random.below(8));
+    let sound = fixtures::sound_parts();
+    let (mut area, sure) = (fixtures::mentions(), random.below(8));
     for (index, part) in area.iter_mut().enumerate() {
         if random.below(2) == 0 && kind != Kind::Baseline && index != sure {
-            *part = sample::unmentioned();
+            *part = fixtures::unmentioned();
         } else if random.below(2) == 0 {
             *part = random.pick(&sound[1..]);
         }
@@ -76,7 +76,8 @@ pub fn parts(random: &mut Random, kind: Kind) -> Area {
     area
 }
 
-/// Answers so many different keys of a side, rising: close together, at the edges, or anywhere.
+/// Returns this many different keys of a side in ascending order: close together, at the edges, or
+/// anywhere.
 pub fn keys(random: &mut Random, side: Side, count: usize) -> Vec<Key> {
     let mut found = BTreeSet::new();
     while found.len() < count {
@@ -95,18 +96,18 @@ pub fn keys(random: &mut Random, side: Side, count: usize) -> Vec<Key> {
         .collect()
 }
 
-/// Makes a sound table of a side that counts so many records, some bytes behind them.
+/// Makes a sound table of a side with this many records, and some bytes after them.
 pub fn table(random: &mut Random, side: Side, count: usize, rest: usize) -> Vec<u8> {
     let mut records = vec![];
     for key in keys(random, side, count) {
         let correction = random.pick(&[0, 1, 2, 255, 256, 65_534, 65_535]);
         records.push(slice(random, key, correction)[RECORD..].to_vec());
     }
-    let length = HEADER_BYTES + count * RECORD_BYTES + rest;
-    sample::table(side, &records, length, random.byte())
+    let length = bytes_of(count) + rest;
+    fixtures::table(side, &records, length, random.byte())
 }
 
-/// Makes the slices of so many keys, up to three corrections each.
+/// Makes the slices of this many keys, up to three corrections each.
 pub fn corrections(random: &mut Random, side: Side, count: usize) -> Vec<Vec<u8>> {
     let mut slices = vec![];
     for key in keys(random, side, count) {
@@ -118,7 +119,7 @@ pub fn corrections(random: &mut Random, side: Side, count: usize) -> Vec<Vec<u8>
     slices
 }
 
-/// Puts repeats and damaged slices among some slices, and all of them into another order.
+/// Adds repeats and damaged slices to some slices, and shuffles them all.
 pub fn mingled(random: &mut Random, mut slices: Vec<Vec<u8>>) -> Vec<Vec<u8>> {
     for _ in 0..slices.len() / 3 {
         let mut again = slices[random.below(slices.len())].clone();
@@ -131,7 +132,7 @@ pub fn mingled(random: &mut Random, mut slices: Vec<Vec<u8>>) -> Vec<Vec<u8>> {
     slices
 }
 
-/// Makes a delivery of so many keys: up to three corrections each, repeats and damage among them.
+/// Makes a delivery of this many keys: up to three corrections each, repeats and damage among them.
 pub fn delivery(random: &mut Random, side: Side, count: usize) -> Vec<Vec<u8>> {
     let slices = corrections(random, side, count);
     mingled(random, slices)
@@ -140,8 +141,8 @@ pub fn delivery(random: &mut Random, side: Side, count: usize) -> Vec<Vec<u8>> {
 /// How long each BASELINE of a crowd holds; the next one begins where it ends.
 pub const STRETCH: usize = 100;
 
-/// Makes so many slices for each side: a row of BASELINEs, three times as many changes anywhere in it,
-/// and TEMPDELTAs of any period; properties of forms at random, and some deltas cancelled.
+/// Makes this many slices for each side: a row of BASELINEs, three times as many changes anywhere
+/// in it, and TEMPDELTAs of any period; properties of forms at random, and some deltas cancelled.
 pub fn crowd(random: &mut Random, count: usize) -> Vec<Case> {
     let baselines = count / 4;
     let mut cases = vec![];
@@ -175,14 +176,14 @@ fn one_of_many(random: &mut Random, kind: Kind, index: usize, times: [u32; 4]) -
         .with_parts(&parts)
 }
 
-/// Puts things into another order.
+/// Shuffles things.
 pub fn shuffle<T>(random: &mut Random, things: &mut [T]) {
     for last in (1..things.len()).rev() {
         things.swap(last, random.below(last + 1));
     }
 }
 
-/// Damages bytes: a bit or a few turned over, a byte set, a property blanked, or a length changed.
+/// Damages bytes: a bit or a few flipped, a byte set, a property blanked, or a length changed.
 pub fn damage(random: &mut Random, bytes: &mut Vec<u8>) {
     let length = bytes.len();
     match random.below(9) {
@@ -199,7 +200,7 @@ pub fn damage(random: &mut Random, bytes: &mut Vec<u8>) {
     }
 }
 
-/// Damages a table in the way that one rule or another forbids.
+/// Damages a table so that it breaks one rule or another.
 pub fn spoil(random: &mut Random, table: &mut Vec<u8>) {
     let length = table.len();
     if length < HEADER_BYTES {
@@ -229,7 +230,7 @@ fn swap_records(random: &mut Random, table: &mut [u8]) {
     }
 }
 
-/// Makes a slice for a table: of a stored key or one beside it, mostly sound.
+/// Makes a mostly sound slice for a table, with a stored key or one next to it.
 pub fn slice_for(random: &mut Random, table: &[u8]) -> Vec<u8> {
     let (records, _) = table
         .get(HEADER_BYTES..)
@@ -259,12 +260,62 @@ pub fn slice_for(random: &mut Random, table: &[u8]) -> Vec<u8> {
     slice
 }
 
+/// Makes a part with a double at a border or at the end of a range, sound or not.
+#[cfg(any(test, feature = "linked"))]
+pub fn edge_part(random: &mut Random) -> fixtures::Part {
+    use fixtures::doubles;
+    let (borders, edges) = (doubles::border_doubles(), doubles::edge_coordinates());
+    match random.below(3) {
+        0 => fixtures::length(random.pick(&borders), 1 + random.below(4) as u8),
+        1 => fixtures::point(random.pick(&borders), random.pick(&edges)),
+        _ => fixtures::point(random.pick(&edges), random.pick(&edges)),
+    }
+}
+
+/// Returns the case with one field changed at random, mostly to something that could be right.
+pub fn drift(case: Case, random: &mut Random) -> Case {
+    let index = random.below(PROPERTIES);
+    match random.below(24) {
+        0 => case.with_byte(KIND, random.pick(&[1, 1, 2, 2, 3, 4])),
+        1 => case.with_byte(FLAGS, random.pick(&[0, 1, 1, 2])),
+        2 => case.with_side(random.pick(&[0, 1])),
+        3 => case.with_byte(SPARE + index, random.pick(&[0, 1])),
+        4 => case.with_part(index, &random.pick(&fixtures::broken_parts())),
+        5..=12 => drift_time(case, random),
+        13 => case.with_byte(KIND + 2 + random.below(6), random.byte()),
+        14..=18 => case.with_part(index, &fixtures::unmentioned()),
+        _ => case.with_part(index, &random.pick(&fixtures::sound_parts())),
+    }
+}
+
+/// Returns the case with one of its times changed at random.
+fn drift_time(mut case: Case, random: &mut Random) -> Case {
+    let place = TIMES + 4 * random.below(4);
+    let time: u32 = random.pick(&[
+        0,
+        99,
+        100,
+        101,
+        120,
+        140,
+        150,
+        200,
+        300,
+        NONE - 1,
+        NONE,
+        NONE,
+        NONE,
+    ]);
+    case.slice[place..place + 4].copy_from_slice(&time.to_be_bytes());
+    case
+}
+
 #[cfg(test)]
 mod tests {
     use super::*;
     use crate::table::{check, Sides, Table};
 
-    /// Sound tables of every count that is asked for.
+    /// Tables are sound, whatever their number of records.
     #[test]
     fn tables_are_sound() {
         let mut random = Random::new(3);
@@ -277,7 +328,7 @@ mod tests {
         }
     }
 
-    /// Damage is damage more often than not.
+    /// Most damaged tables are refused.
     #[test]
     fn spoiled_tables_are_mostly_refused() {
         let mut random = Random::new(4);

@@ -1,15 +1,10 @@
-//! Tables: the header, the refusals 1 to 7, and a table's bytes read and written as a whole.
+//! Tables: the header, the refusals 1 to 7, and reading and writing a whole table.
 
-use crate::record::{Key, Record, Side, RECORD_BYTES};
+use crate::layout::{FEATURE_BYTES, HEADER_BYTES, MOST_RECORDS, RECORD_BYTES};
+use crate::record::{Key, Record, Side};
 use crate::refusal::{hold, Refusal};
-use crate::slice::{check_record, FEATURE_BYTES};
+use crate::slice::check_record;
 use std::collections::BTreeMap;
-
-/// The bytes of a table before its records.
-pub const HEADER_BYTES: usize = 32;
-
-/// The most records of a table, whatever its bytes.
-pub const MOST_RECORDS: usize = 256;
 
 /// The bytes of a feature identifier.
 pub type Feature = [u8; FEATURE_BYTES];
@@ -22,7 +17,7 @@ pub enum Sides {
     Both,
 }
 
-/// The first bytes of a table, whatever they say.
+/// The header of a table, sound or not.
 struct Header {
     letters: [u8; 3],
     side: u8,
@@ -42,7 +37,7 @@ pub struct Table {
 }
 
 impl Sides {
-    /// Answers whether the side is one of these.
+    /// Returns whether the side is one of these.
     pub fn take(self, side: Side) -> bool {
         match self {
             Sides::Permanent => side == Side::Permanent,
@@ -53,7 +48,7 @@ impl Sides {
 }
 
 impl Header {
-    /// Answers what the bytes of a header say.
+    /// Returns the header that the bytes hold.
     fn read(bytes: &[u8; HEADER_BYTES]) -> Header {
         let [t, s, l, side, v0, v1, c0, c1, rest @ ..] = bytes;
         let (feature, spare) = rest.split_at(FEATURE_BYTES);
@@ -67,7 +62,7 @@ impl Header {
         }
     }
 
-    /// Answers the header of a sound table.
+    /// Returns the header of a sound table.
     fn of(table: &Table) -> Header {
         Header {
             letters: *b"TSL",
@@ -79,7 +74,7 @@ impl Header {
         }
     }
 
-    /// Answers the bytes that say this.
+    /// Returns the bytes of the header.
     fn write(&self) -> Vec<u8> {
         let mut bytes = self.letters.to_vec();
         bytes.push(self.side);
@@ -90,7 +85,7 @@ impl Header {
         bytes
     }
 
-    /// Answers the first refusal, 2 to 5, that the header meets, or else the side.
+    /// Returns the side, or the first refusal, 2 to 5.
     fn check(&self, sides: Sides, room: usize) -> Result<Side, Refusal> {
         hold(self.letters == *b"TSL", Refusal::Name)?;
         let side = Side::of(self.side).filter(|side| sides.take(*side));
@@ -102,13 +97,13 @@ impl Header {
     }
 }
 
-/// Answers how many records so many bytes after a header have room for.
+/// Returns how many records fit into this many bytes after a header.
 fn room(bytes: usize) -> usize {
     MOST_RECORDS.min(bytes / RECORD_BYTES)
 }
 
 impl Table {
-    /// Answers the table that the bytes hold, or the first refusal, 1 to 7, that they meet.
+    /// Returns the table that the bytes hold, or the first refusal, 1 to 7.
     pub fn read(bytes: &[u8], sides: Sides) -> Result<Table, Refusal> {
         let (header, rest) = bytes.split_first_chunk().ok_or(Refusal::Short)?;
         let header = Header::read(header);
@@ -139,13 +134,13 @@ impl Table {
     }
 }
 
-/// Answers the first records of the bytes after a header, as many as are counted.
+/// Returns the first records of the bytes after a header, as many as are counted.
 fn counted(bytes: &[u8], count: usize) -> Vec<Record> {
     let (records, _) = bytes.as_chunks();
     records.iter().take(count).map(Record::read).collect()
 }
 
-/// Makes a new table of a side and a feature; a refused one changes no byte.
+/// Makes a new table of a side and a feature; if it is refused, no byte changes.
 pub fn create(bytes: &mut [u8], side: u8, feature: &Feature) -> Result<(), Refusal> {
     hold(bytes.len() >= HEADER_BYTES, Refusal::Short)?;
     let side = Side::of(side).ok_or(Refusal::Name)?;
@@ -159,46 +154,35 @@ pub fn create(bytes: &mut [u8], side: u8, feature: &Feature) -> Result<(), Refus
     Ok(())
 }
 
-/// Answers the first refusal, 1 to 7, that the bytes of a table meet, if any.
+/// Returns the first refusal, 1 to 7, of a table, if any.
 pub fn check(bytes: &[u8], sides: Sides) -> Result<(), Refusal> {
     Table::read(bytes, sides).map(|_| ())
 }
 
 #[cfg(test)]
-pub mod tests {
+mod tests {
     use super::*;
+    use crate::fixtures::brief::passing;
+    use crate::fixtures::{self, FEATURE, KIND};
+    use crate::record::NONE;
     use crate::refusal::number_of;
 
-    pub const FEATURE: Feature = [7; 16];
-
-    /// Makes a sound TEMPDELTA, or the same bytes as another kind.
-    pub fn record(kind: u8, sequence: u32, correction: u16, code: u16) -> Vec<u8> {
-        let mut record = vec![0; 224];
-        record[0] = kind;
-        record[2..4].copy_from_slice(&correction.to_be_bytes());
-        record[4..8].copy_from_slice(&sequence.to_be_bytes());
-        record[8..24].fill(255);
-        record[8..12].copy_from_slice(&[0, 0, 0, 120]);
-        record[32] = 2;
-        record[40..42].copy_from_slice(&code.to_be_bytes());
-        record
+    /// Makes a sound TEMPDELTA.
+    fn record(sequence: u32) -> Vec<u8> {
+        passing(sequence, 120, NONE, 9).record()
     }
 
-    /// Makes a temporary table of some bytes that counts the records it is given.
-    pub fn table(length: usize, records: &[Vec<u8>]) -> Vec<u8> {
-        let count = records.len() as u8;
-        let head = [b'T', b'S', b'L', 1, 0, 1, 0, count];
-        let mut bytes = [&head[..], &FEATURE, &[0; 8], &records.concat()].concat();
-        bytes.resize(length, 0xa5);
-        bytes
+    /// Makes a temporary table of a length with these records.
+    fn table(length: usize, records: &[Vec<u8>]) -> Vec<u8> {
+        fixtures::table(Side::Temporary, records, length, 0xa5)
     }
 
-    /// Makes three records in rising order.
+    /// Makes three records in ascending order.
     fn three() -> [Vec<u8>; 3] {
-        [1, 2, 300].map(|sequence| record(3, sequence, 0, 9))
+        [1, 2, 300].map(record)
     }
 
-    /// Answers the number of a table with a byte set.
+    /// Returns the number of a table with a byte set.
     fn changed(offset: usize, value: u8) -> u8 {
         let mut bytes = table(1000, &three());
         bytes[offset] = value;
@@ -272,7 +256,7 @@ pub mod tests {
         assert_eq!(check(&long, Sides::Both), Err(Refusal::Record));
     }
 
-    /// "some record in the table fails 11 to 16", wherever it stands.
+    /// "some record in the table fails 11 to 16", wherever it is.
     #[test]
     fn six_is_for_a_record() {
         for start in [32, 32 + 224, 32 + 2 * 224] {
@@ -295,10 +279,11 @@ pub mod tests {
             let bytes = table(1000, &wrong.map(Vec::clone));
             assert_eq!(check(&bytes, Sides::Both), Err(Refusal::Order));
         }
-        let other = record(3, 1, 1, 9);
-        let bytes = table(1000, &[one, other]);
+        let other = passing(1, 120, NONE, 9).with_correction(1);
+        let bytes = table(1000, &[one, other.record()]);
         assert_eq!(check(&bytes, Sides::Both), Err(Refusal::Order));
-        let bytes = table(1000, &[two, record(3, 1, 0, 9), record(1, 9, 0, 0)]);
+        let foreign = passing(9, 120, NONE, 0).with_byte(KIND, 1);
+        let bytes = table(1000, &[two, record(1), foreign.record()]);
         assert_eq!(check(&bytes, Sides::Both), Err(Refusal::Record));
     }
 
@@ -328,7 +313,7 @@ pub mod tests {
         assert_eq!(bytes, [0xa5; 300]);
     }
 
-    /// Reading and writing leaves every byte, those after the last record too.
+    /// Reading and writing changes no byte, not even after the last record.
     #[test]
     fn a_table_is_written_as_it_was_read() {
         let bytes = table(1000, &three());

@@ -1,8 +1,9 @@
 //! The two tables of a feature, and the instants that matter in them.
 
-use crate::record::{Kind, Record, Side, NONE, RECORD_BYTES};
-use crate::table::{Sides, Table, HEADER_BYTES};
-use crate::vectors::sample::{self, Case};
+use crate::fixtures::{self, Case};
+use crate::layout::bytes_of;
+use crate::record::{Kind, Record, Side, NONE};
+use crate::table::{Sides, Table};
 use std::collections::BTreeSet;
 
 /// The bytes of a permanent and of a temporary table.
@@ -12,7 +13,7 @@ pub struct Tables {
     pub temporary: Vec<u8>,
 }
 
-/// What is asked about two tables at an instant; the permanent state is asked of one of them.
+/// A question about two tables at an instant; the permanent state needs only one of them.
 #[derive(Clone, Copy, Debug, PartialEq)]
 pub enum Question {
     State,
@@ -20,7 +21,7 @@ pub enum Question {
     Property(u8),
 }
 
-/// What is made of a permanent table, into an output.
+/// What a call makes of a permanent table and writes into an output.
 #[derive(Clone, Copy, Debug, PartialEq)]
 pub enum Product {
     Derived,
@@ -28,7 +29,16 @@ pub enum Product {
 }
 
 impl Tables {
-    /// Makes the full tables of some cases, each of which goes to its side and its place.
+    /// Makes two tables of this many bytes without a record.
+    pub fn empty(length: usize) -> Tables {
+        let table = |side| fixtures::table(side, &[], length, 0);
+        Tables {
+            permanent: table(Side::Permanent),
+            temporary: table(Side::Temporary),
+        }
+    }
+
+    /// Makes the full tables of some cases; each goes to its side, in order.
     pub fn of(cases: &[Case]) -> Tables {
         let side = |side| {
             let mut records: Vec<Vec<u8>> = cases
@@ -37,8 +47,8 @@ impl Tables {
                 .filter(|record| Kind::of(record[0]).map(Kind::side) == Some(side))
                 .collect();
             records.sort_by_key(|record| (record[0], record[4..8].to_vec()));
-            let length = HEADER_BYTES + records.len() * RECORD_BYTES;
-            sample::table(side, &records, length, 0)
+            let length = bytes_of(records.len());
+            fixtures::table(side, &records, length, 0)
         };
         Tables {
             permanent: side(Side::Permanent),
@@ -46,7 +56,7 @@ impl Tables {
         }
     }
 
-    /// Answers the table of a side, to be changed.
+    /// Returns the table of a side, for changing it.
     pub fn of_side(&mut self, side: Side) -> &mut Vec<u8> {
         match side {
             Side::Permanent => &mut self.permanent,
@@ -54,7 +64,8 @@ impl Tables {
         }
     }
 
-    /// Answers every time that a record of a sound table gives, and the instants beside it, rising.
+    /// Returns, in ascending order, every time that a record of a sound table gives, and the
+    /// instants next to it.
     pub fn instants(&self) -> Vec<u32> {
         let tables = [&self.permanent, &self.temporary];
         let sound = tables
@@ -68,7 +79,12 @@ impl Tables {
     }
 }
 
-/// Answers the times that a record gives.
+/// Makes the full permanent table of some cases.
+pub fn permanent(cases: &[Case]) -> Vec<u8> {
+    Tables::of(cases).permanent
+}
+
+/// Returns the times that a record gives.
 fn times(record: Record) -> impl Iterator<Item = u32> {
     let (period, life) = (record.head.period, record.head.life);
     [period.begin, period.end, life.begin, life.end]

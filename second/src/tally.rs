@@ -1,19 +1,19 @@
-//! How often each call gave each answer, and which answers never came up.
+//! How often each call gave each answer, and which answers never occurred.
 
 use crate::library::Reply;
 use std::collections::BTreeMap;
 use std::fmt;
 
-/// An answer that is counted, whatever number or place it comes with.
+/// An answer that is counted, whatever its number or offset.
 #[derive(Clone, Copy, Debug, PartialEq, Eq, PartialOrd, Ord)]
 pub struct Answer {
     /// The letter that asks in the vectors.
     pub letter: char,
-    /// The kind, 0 of a refusal; a listing that tells of one is counted so.
+    /// The kind, 0 for a refusal; the listing of a refusal counts as one.
     pub kind: u32,
     /// The number of a refusal, or else 0.
     pub number: u32,
-    /// Whether it is a refusal of the temporary table, 1 to 7, the permanent one being sound.
+    /// Whether the temporary table is refused, 1 to 7, while the permanent one is sound.
     pub is_temporary: bool,
 }
 
@@ -23,17 +23,17 @@ pub struct Tally {
     counts: BTreeMap<Answer, u64>,
 }
 
-/// What may be answered to a letter: the numbers of refusals, and the words of the other kinds.
+/// The possible answers to a letter: the numbers of refusals, and the words of the other kinds.
 struct Answers {
     letter: char,
     numbers: &'static [u32],
     words: &'static [&'static str],
 }
 
-/// The refusals of a derivation, but for 24, which no table brings about.
+/// The refusals of a derivation, except 24, which no table causes.
 const DERIVED: &[u32] = &[1, 2, 3, 4, 5, 6, 7, 21, 23];
 
-/// Everything that may be answered.
+/// Every possible answer.
 const ALL: [Answers; 7] = [
     Answers {
         letter: 'm',
@@ -73,7 +73,7 @@ const ALL: [Answers; 7] = [
 ];
 
 impl Answer {
-    /// Answers the refusal of a number.
+    /// Returns the refusal of a number.
     fn refusal(letter: char, number: u32, is_temporary: bool) -> Answer {
         Answer {
             letter,
@@ -83,7 +83,7 @@ impl Answer {
         }
     }
 
-    /// Answers what a letter's reply counts as.
+    /// Returns the answer that a letter's reply counts as.
     pub fn of(letter: char, reply: Reply, is_temporary: bool) -> Answer {
         match reply.kind {
             0 => Answer::refusal(letter, reply.number, is_temporary),
@@ -94,7 +94,7 @@ impl Answer {
         }
     }
 
-    /// Answers every answer that there may be.
+    /// Returns every possible answer.
     fn all() -> Vec<Answer> {
         let of_letter = |answers: &Answers| {
             let letter = answers.letter;
@@ -130,12 +130,12 @@ impl Tally {
         *self.counts.entry(answer).or_insert(0) += 1;
     }
 
-    /// Answers how many calls were counted.
+    /// Returns how many calls were counted.
     pub fn calls(&self) -> u64 {
         self.counts.values().sum()
     }
 
-    /// Answers the answers that never came up.
+    /// Returns the answers that never occurred.
     pub fn unseen(&self) -> Vec<Answer> {
         let mut answers = Answer::all();
         answers.retain(|answer| !self.counts.contains_key(answer));
@@ -144,7 +144,7 @@ impl Tally {
 }
 
 impl fmt::Display for Tally {
-    /// Writes the number of calls by answer, a line each, and what never came up.
+    /// Writes the number of calls by answer, one per line, and the answers that never occurred.
     fn fmt(&self, out: &mut fmt::Formatter) -> fmt::Result {
         for (answer, count) in &self.counts {
             writeln!(out, "{count:>12} {answer}")?;

@@ -1,9 +1,8 @@
-//! The vectors: asks with their answers, and the format they are handed on in.
+//! The vectors: asks with their answers, and their format.
 
 mod anchors;
 mod areas;
 mod asking;
-pub mod brief;
 mod cancelled;
 pub mod chance;
 mod content;
@@ -24,37 +23,37 @@ mod refusals;
 mod revivals;
 mod rooms;
 pub mod rules;
-pub mod sample;
 mod slices;
 pub mod themes;
 mod times;
 
 use crate::arrival::{self, Arrival};
+use crate::fixtures::Case;
 use crate::play::{round, Call, Player};
 use crate::property;
 use crate::refusal::{number_of, Refusal};
+use crate::slice;
 use crate::table::{self, Sides};
 use format::{
     buffer_line, changes, either_lines, line, BUFFER_BYTES, EXCHANGE, FEATURE_BYTES, TABLE_BYTES,
 };
-use sample::Case;
 use std::convert::Infallible;
 
-/// One line of the listing: a title for a person, or an ask.
+/// One line of the listing: a title for people, or an ask.
 enum Row {
     Title(&'static str),
     Ask(Ask),
 }
 
-/// An ask: the lines that make it ready, the line that asks, and the answer.
+/// An ask: the lines that prepare it, the line that asks, and the answer.
 struct Ask {
     changes: Vec<String>,
     line: String,
     answer: String,
 }
 
-/// What the lines so far have made: the buffer, the feature, both tables, the instant, the record and
-/// the output, and the table as it was before the last ask for its check or a change.
+/// What the lines so far have set: the buffer, the feature, both tables, the instant, the record,
+/// the output, and the table before the last ask for its check or a change.
 #[derive(Default)]
 struct Made {
     buffer: Vec<u8>,
@@ -67,8 +66,8 @@ struct Made {
     output: Vec<u8>,
 }
 
-/// All asks in order, what their lines have made, and whether a title has come since the last record or
-/// output.
+/// All asks in order, what their lines have set, and whether there was a title since the last
+/// record or output.
 #[derive(Default)]
 pub struct Script {
     made: Made,
@@ -76,12 +75,12 @@ pub struct Script {
     is_begun: bool,
 }
 
-/// Answers the number of a refusal.
+/// Returns the number of a refusal.
 fn refused(refusal: Refusal) -> String {
     refusal.number().to_string()
 }
 
-/// Answers every vector of this program.
+/// Returns every vector of this program.
 pub fn all() -> Script {
     let mut script = Script::default();
     parts::add(&mut script);
@@ -109,7 +108,7 @@ pub fn all() -> Script {
     script
 }
 
-/// Answers one round of random calls as vectors, the same for the same seed.
+/// Returns one round of random calls as vectors, the same for the same seed.
 pub fn random(seed: u64) -> Script {
     let mut script = Script::default();
     script.title("random calls");
@@ -121,32 +120,32 @@ impl Player for Script {
     type Fault = Infallible;
 
     /// Adds the call as an ask.
-    fn call(&mut self, place: &mut Vec<u8>, call: &Call) -> Result<(), Infallible> {
+    fn call(&mut self, buffer: &mut Vec<u8>, call: &Call) -> Result<(), Infallible> {
         match call {
-            Call::Create { side, feature } => self.ask_creation(place, *side, &feature[..]),
-            Call::Arrive { slice } => self.ask_arrival(place, slice),
+            Call::Create { side, feature } => self.ask_creation(buffer, *side, &feature[..]),
+            Call::Arrive { slice } => self.ask_arrival(buffer, slice),
             Call::Ask {
                 tables,
                 instant,
                 question,
             } => {
-                self.ask_question(tables, *instant, *question, place);
-                place.clone_from(&self.made.record);
+                self.ask_question(tables, *instant, *question, buffer);
+                buffer.clone_from(&self.made.record);
                 return Ok(());
             }
             Call::Make { permanent, product } => {
-                self.ask_product(*product, permanent, place);
-                place.clone_from(&self.made.output);
+                self.ask_product(*product, permanent, buffer);
+                buffer.clone_from(&self.made.output);
                 return Ok(());
             }
         }
-        place.clone_from(&self.made.table);
+        buffer.clone_from(&self.made.table);
         Ok(())
     }
 }
 
 impl Script {
-    /// Begins a group of asks under a title.
+    /// Starts a group of asks under a title.
     fn title(&mut self, title: &'static str) {
         self.rows.push(Row::Title(title));
         self.is_begun = true;
@@ -171,7 +170,7 @@ impl Script {
         let feature_line = self.set_feature(&case.feature);
         let buffer_line = self.set_buffer(&case.slice);
         let changes = feature_line.into_iter().chain(buffer_line).collect();
-        let answer = case.number().to_string();
+        let answer = number_of(slice::check(&case.slice, &case.feature, case.side)).to_string();
         self.ask(changes, line('s', &[case.side]), answer);
     }
 
@@ -222,7 +221,7 @@ impl Script {
         self.ask(lines, line, answer);
     }
 
-    /// Changes the table; answers the lines that do so, which may take the other one for it.
+    /// Changes the table; returns the lines that do so, which may exchange it with the other one.
     fn set_table(&mut self, bytes: &[u8]) -> Vec<String> {
         assert!(bytes.len() <= TABLE_BYTES);
         let lines = either_lines(&self.made.table, &self.made.other, &self.made.before, bytes);
@@ -233,7 +232,7 @@ impl Script {
         lines
     }
 
-    /// Adds an ask that is ready.
+    /// Adds a finished ask.
     fn ask(&mut self, changes: Vec<String>, line: String, answer: String) {
         self.rows.push(Row::Ask(Ask {
             changes,
@@ -242,7 +241,7 @@ impl Script {
         }));
     }
 
-    /// Changes the buffer; answers the line that does so, if one is needed.
+    /// Changes the buffer; returns the line that does so, if one is needed.
     fn set_buffer(&mut self, bytes: &[u8]) -> Option<String> {
         assert!(bytes.len() <= BUFFER_BYTES);
         let line = buffer_line(&self.made.buffer, bytes);
@@ -250,7 +249,7 @@ impl Script {
         line
     }
 
-    /// Changes the feature; answers the line that does so, if one is needed.
+    /// Changes the feature; returns the line that does so, if one is needed.
     fn set_feature(&mut self, bytes: &[u8]) -> Option<String> {
         assert!(bytes.len() <= FEATURE_BYTES);
         let line = (self.made.feature != bytes).then(|| line('f', bytes));
@@ -258,7 +257,7 @@ impl Script {
         line
     }
 
-    /// Answers the asks without the titles.
+    /// Returns the asks, without the titles.
     fn asks(&self) -> impl Iterator<Item = &Ask> {
         self.rows.iter().filter_map(|row| match row {
             Row::Title(_) => None,
@@ -266,7 +265,7 @@ impl Script {
         })
     }
 
-    /// Answers the input stream.
+    /// Returns the input stream.
     pub fn input(&self) -> String {
         self.asks()
             .flat_map(|ask| ask.changes.iter().chain([&ask.line]))
@@ -274,12 +273,12 @@ impl Script {
             .collect()
     }
 
-    /// Answers the answers, one line an ask.
+    /// Returns the answers, one line per ask.
     pub fn answers(&self) -> String {
         self.asks().map(|ask| format!("{}\n", ask.answer)).collect()
     }
 
-    /// Answers titles, asks and answers for a person to read, one line an ask.
+    /// Returns titles, asks and answers for people to read, one line per ask.
     pub fn listing(&self) -> String {
         self.rows
             .iter()
@@ -289,7 +288,7 @@ impl Script {
 }
 
 impl Row {
-    /// Answers the row as a person reads it.
+    /// Returns the row for people to read.
     fn text(&self) -> String {
         match self {
             Row::Title(title) => format!("# {title}"),
@@ -310,14 +309,13 @@ mod tests {
     use super::*;
     use crate::property::{decode, find, properties};
     use crate::question::{permanent_state, property, snapshot};
-    use crate::slice;
     use crate::tables::Product;
     use std::collections::BTreeMap;
 
     /// The seeds of random calls that the gate has.
     const SEEDS: u64 = 42;
 
-    /// Answers the bytes that pairs of hex digits stand for.
+    /// Returns the bytes that pairs of hex digits encode.
     fn unhex(digits: &str) -> Vec<u8> {
         assert!(
             digits.len().is_multiple_of(2)
@@ -330,7 +328,7 @@ mod tests {
     }
 
     impl Made {
-        /// Obeys a line that makes something; answers whether it was one.
+        /// Follows a line that sets something; returns whether it was one.
         fn make(&mut self, letter: &str, bytes: &[u8]) -> bool {
             let place =
                 |at: &[u8]| usize::from(at[0]) << 16 | usize::from(at[1]) << 8 | usize::from(at[2]);
@@ -405,7 +403,7 @@ mod tests {
         }
     }
 
-    /// Answers the answers to an input stream, read line by line as the format says.
+    /// Returns the answers to an input stream, read line by line as the format says.
     fn replay(input: &str) -> String {
         let mut reader = Made::default();
         let mut answers = String::new();
@@ -419,7 +417,7 @@ mod tests {
         answers
     }
 
-    /// The stream alone leads to the same answers.
+    /// The stream alone gives the same answers.
     #[test]
     fn the_stream_read_back_gives_the_answers() {
         for script in [all(), random(1), random(2)] {
@@ -427,7 +425,7 @@ mod tests {
         }
     }
 
-    /// Two runs give the same bytes, within the sizes wanted.
+    /// Two runs give the same bytes, and the sizes are within the limits.
     #[test]
     fn the_streams_are_the_same_each_time_and_small() {
         let (one, other) = (all(), all());
@@ -439,7 +437,7 @@ mod tests {
         }
     }
 
-    /// Answers how many asks have each answer, by letter and word.
+    /// Returns how many asks have each answer, by letter and word.
     fn counts(script: &Script) -> BTreeMap<(String, String), usize> {
         let mut counts = BTreeMap::new();
         for ask in script.asks() {
@@ -450,7 +448,8 @@ mod tests {
         counts
     }
 
-    /// Holds that each letter has so many asks or more for each of the words, and no other answer.
+    /// Checks that each letter has at least this many asks for each of the words, and no other
+    /// answer.
     fn hold_answers(script: &Script, letters: &str, expected: &[(&str, &str, usize)]) {
         let mut counts = counts(script);
         counts.retain(|(letter, _), _| letters.contains(letter));
@@ -468,8 +467,8 @@ mod tests {
         assert_eq!(counts.len(), answers);
     }
 
-    /// A hundred asks or more for each answer, twenty for each about an instant, ten for each about
-    /// derived baselines and listings, and no other answer.
+    /// At least a hundred asks for each answer, twenty for each about an instant, ten for each
+    /// about derived baselines and listings, and no other answer.
     #[test]
     fn every_answer_is_well_represented() {
         let expected = [

@@ -1,10 +1,10 @@
-//! Tables of which baselines are derived, as many as each has records.
+//! Tables to derive baselines from, as many as each has records.
 
+use crate::fixtures::Case;
 use crate::random::Random;
 use crate::record::{Kind, NONE};
 use crate::supply::{parts, STRETCH};
-use crate::tables::Tables;
-use crate::vectors::sample::Case;
+use crate::tables::permanent;
 
 /// What the tables are like.
 #[derive(Clone, Copy, Debug)]
@@ -17,12 +17,12 @@ pub enum Shape {
     Open,
 }
 
-/// Makes a table of so many records.
+/// Makes a table of this many records.
 pub fn table(shape: Shape, count: usize, seed: u64) -> Vec<u8> {
-    Tables::of(&cases(shape, count, &mut Random::new(seed))).permanent
+    permanent(&cases(shape, count, &mut Random::new(seed)))
 }
 
-/// Makes so many slices, of forms at random, that give as many derived baselines.
+/// Makes this many slices, of forms at random, that give as many derived baselines.
 fn cases(shape: Shape, count: usize, random: &mut Random) -> Vec<Case> {
     let baselines = match shape {
         Shape::Row => count / 2,
@@ -61,7 +61,7 @@ fn case(random: &mut Random, kind: Kind, index: usize, [begin, end]: [u32; 2]) -
 mod tests {
     use super::*;
     use crate::derived::derive;
-    use crate::vectors::deriving::bytes_of;
+    use crate::layout::bytes_of;
 
     /// As many derived baselines as records, each of them from one change instant to the next.
     #[test]

@@ -1,16 +1,24 @@
-//! Tables of which states, snapshots and properties are asked, each with an instant that has a state.
+//! Tables to ask for states, snapshots and properties, each with an instant that has a state.
 
-use super::scenes::Make;
+use crate::fixtures::Case;
 use crate::random::Random;
 use crate::record::{Kind, NONE};
 use crate::supply;
 use crate::tables::Tables;
-use crate::vectors::sample::Case;
+
+/// What the records of a table are like, whether it is asked about or delivered to.
+#[derive(Clone, Copy, Debug)]
+pub enum Make {
+    /// All of one form.
+    Alike,
+    /// Of forms at random, some cancelled.
+    Mixed,
+}
 
 /// The instant of the questions about records that are alike; every one of them is applied.
 const ALIKE: u32 = 160;
 
-/// Makes two full tables of so many records each, and the instant that is asked about.
+/// Makes two full tables of this many records each, and the instant that is asked about.
 pub fn asked(make: Make, count: usize, seed: u64) -> (Tables, u32) {
     match make {
         Make::Alike => (Tables::of(&alike(count)), ALIKE),

@@ -1,27 +1,18 @@
-//! What is measured: each call on tables of so many records, with what it answers.
+//! What is measured: each call on tables of this many records, with the expected reply.
 
 use super::derived::{self, Shape};
-use super::questions::asked;
+use super::questions::{asked, Make};
 use super::{Call, Scene, Use, RECORDS, TEXT};
+use crate::fixtures::{cases, table_of, FEATURE, RECORD};
+use crate::layout::{bytes_of, HEADER_BYTES, RECORD_BYTES};
 use crate::library::Reply;
 use crate::listing::list;
 use crate::question::property;
 use crate::random::Random;
-use crate::record::{Kind, Side, RECORD_BYTES};
+use crate::record::{Kind, Side};
 use crate::supply;
-use crate::table::HEADER_BYTES;
-use crate::vectors::sample::{cases, table_of, FEATURE, RECORD};
 
-/// What the records of a table are like.
-#[derive(Clone, Copy, Debug)]
-pub enum Make {
-    /// TEMPDELTAs of one form each.
-    Alike,
-    /// BASELINEs and PERMDELTAs, some cancelled, of forms at random.
-    Mixed,
-}
-
-/// Makes every scene on tables of so many records, in the order of the table that is printed.
+/// Makes every scene on tables of this many records, in the order of the table that is printed.
 pub fn all(count: usize) -> Vec<Scene> {
     let created = |seed| {
         [made(
@@ -74,7 +65,7 @@ fn scenes<const N: usize>(
     names.into_iter().enumerate().map(scene).collect()
 }
 
-/// Makes a use of a table that is accepted with a kind and no number.
+/// Makes a use of a table whose reply has a kind and no number.
 fn made(table: Vec<u8>, call: Call, kind: u32) -> Use {
     Use {
         table,
@@ -83,7 +74,8 @@ fn made(table: Vec<u8>, call: Call, kind: u32) -> Use {
     }
 }
 
-/// Makes a table that counts so many records and has no room for more.
+/// Makes a table that counts this many records and has no room for more: TEMPDELTAs that are alike,
+/// or BASELINEs and PERMDELTAs, mixed.
 fn full_table(make: Make, count: usize, seed: u64) -> Vec<u8> {
     match make {
         Make::Mixed => supply::table(&mut Random::new(seed), Side::Permanent, count, 0),
@@ -96,30 +88,31 @@ fn full_table(make: Make, count: usize, seed: u64) -> Vec<u8> {
     }
 }
 
-/// Answers the slice of a table's record, under the correction 1.
+/// Returns the slice of a table's record, under the correction 1.
 fn slice(table: &[u8], index: usize) -> Vec<u8> {
-    let start = HEADER_BYTES + index * RECORD_BYTES;
+    let start = bytes_of(index);
     let mut slice = [&FEATURE, &table[start..start + RECORD_BYTES]].concat();
     slice[RECORD + 2..RECORD + 4].copy_from_slice(&[0, 1]);
     slice
 }
 
-/// Answers a table with another correction number in one of its records.
+/// Returns a table with another correction number in one of its records.
 fn corrected(mut table: Vec<u8>, index: usize, correction: u16) -> Vec<u8> {
-    let place = HEADER_BYTES + index * RECORD_BYTES + 2;
+    let place = bytes_of(index) + 2;
     table[place..place + 2].copy_from_slice(&correction.to_be_bytes());
     table
 }
 
-/// Answers a table without its first record, which leaves room for one.
+/// Returns a table without its first record, which leaves room for one.
 fn without_first(mut table: Vec<u8>) -> Vec<u8> {
     let count = u16::from_be_bytes([table[6], table[7]]) - 1;
     table[6..8].copy_from_slice(&count.to_be_bytes());
-    table.copy_within(HEADER_BYTES + RECORD_BYTES.., HEADER_BYTES);
+    table.copy_within(bytes_of(1).., HEADER_BYTES);
     table
 }
 
-/// Makes the arrivals: a slice of no bytes, and one that is Added, Replaced, Superseded and a Repeat.
+/// Makes the arrivals: a slice of no bytes, and one that is Added, Replaced, Superseded and a
+/// Repeat.
 fn arrivals(make: Make, count: usize, seed: u64) -> [Use; 5] {
     let table = full_table(make, count, seed);
     let middle = count / 2;
@@ -178,7 +171,7 @@ mod tests {
     use crate::library::PLAIN;
     use crate::listing::MOST_BYTES;
 
-    /// Each call answers what its scene says, and a repeated one does so again.
+    /// Each call replies as its scene expects, and a repeated call does so again.
     #[test]
     fn scenes_are_what_they_are_called() {
         let mut output = vec![0; MOST_BYTES];

@@ -1,4 +1,4 @@
-//! Clang's fuzzer, which chooses the programs by what they cover.
+//! Clang's fuzzer, which chooses the programs by the code they cover.
 
 use super::play;
 use crate::linked::LINKED;
@@ -15,7 +15,7 @@ unsafe extern "C" {
 extern "C" fn tried(bytes: *const u8, length: usize) -> c_int {
     let bytes = match length {
         0 => &[],
-        // SAFETY: the fuzzer hands so many bytes, which nobody changes meanwhile.
+        // SAFETY: the fuzzer passes a pointer to this many bytes, which nothing changes meanwhile.
         _ => unsafe { std::slice::from_raw_parts(bytes, length) },
     };
     if let Err(difference) = play(&LINKED, bytes) {
@@ -25,7 +25,7 @@ extern "C" fn tried(bytes: *const u8, length: usize) -> c_int {
     0
 }
 
-/// Hands over to the fuzzer, with its own words; answers whether it found nothing.
+/// Runs the fuzzer with its own arguments; returns whether it found nothing.
 pub fn run(words: &[&str]) -> bool {
     let name = |word: &str| CString::new(word).expect("a word of a command line has no zero byte");
     let owned: Vec<CString> = ["second"]

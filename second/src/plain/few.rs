@@ -1,4 +1,4 @@
-//! A list of at most so many things, in a place of its own and not on the heap.
+//! A list of limited length that is not on the heap.
 
 use std::ops::{Deref, DerefMut};
 
@@ -9,7 +9,7 @@ pub struct Few<T, const N: usize> {
 }
 
 impl<T: Copy + PartialEq, const N: usize> Few<T, N> {
-    /// Makes a list of some things, at most `N`; the rest of its place is filled with another.
+    /// Makes a list of some things, at most `N`; another thing fills the rest.
     pub fn of(fill: T, things: impl Iterator<Item = T>) -> Few<T, N> {
         let mut few = Few {
             things: [fill; N],
@@ -22,7 +22,7 @@ impl<T: Copy + PartialEq, const N: usize> Few<T, N> {
         few
     }
 
-    /// Leaves one of each run of equal things.
+    /// Keeps one of each run of equal things.
     pub fn dedup(&mut self) {
         let mut kept = self.length.min(1);
         for index in 1..self.length {
@@ -38,14 +38,14 @@ impl<T: Copy + PartialEq, const N: usize> Few<T, N> {
 impl<T, const N: usize> Deref for Few<T, N> {
     type Target = [T];
 
-    /// Answers the things.
+    /// Returns the things.
     fn deref(&self) -> &[T] {
         &self.things[..self.length]
     }
 }
 
 impl<T, const N: usize> DerefMut for Few<T, N> {
-    /// Answers the things, to be changed.
+    /// Returns the things, for changing them.
     fn deref_mut(&mut self) -> &mut [T] {
         &mut self.things[..self.length]
     }

@@ -14,8 +14,8 @@ const LINE: usize = 3 + 10 + 10 + 8 + 4;
 /// A program that derives baselines into an output.
 type Derive = fn(&[u8], &mut [u8]) -> Result<usize, Refusal>;
 
-/// Writes the listing of baselines that are derived so into the first bytes of a place, if it fits;
-/// answers its length, as an error where it does not.
+/// Writes the listing, with baselines from this program, into the first bytes of the buffer, if it
+/// fits; returns its length, as an error if it does not fit.
 pub fn list(permanent: &[u8], text: &mut [u8], derive: Derive) -> Result<usize, usize> {
     let mut listing = [0; (MOST + 1) * LINE];
     let mut rest = &mut listing[..];

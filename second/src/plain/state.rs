@@ -15,7 +15,7 @@ const UNKNOWN: Part = {
 /// The bytes before the times of a state that is written as a record.
 const STATE: [u8; 8] = [4, 0, 0, 0, 0, 0, 0, 0];
 
-/// The times of a record and where they stand in it.
+/// Where the times are in a record.
 pub const BEGIN: usize = 8;
 pub const END: usize = 12;
 pub const LIFE_BEGIN: usize = 16;
@@ -24,7 +24,7 @@ pub const LIFE_END: usize = 20;
 /// The table of a property's bytes, and where they begin in it, if anything mentions it.
 type Place = Option<(Side, usize)>;
 
-/// Something that the latest record so far has said, and when in the order of changes that was.
+/// A value from the latest record so far, and that record's turn in the order of changes.
 #[derive(Clone, Copy)]
 struct Latest<T> {
     turn: u64,
@@ -32,7 +32,7 @@ struct Latest<T> {
 }
 
 impl<T> Latest<T> {
-    /// Takes what a record says, unless a later one has spoken.
+    /// Takes a record's value, unless it already has that of a later record.
     fn hear(&mut self, turn: u64, said: T) {
         if turn > self.turn {
             *self = Latest { turn, said };
@@ -74,7 +74,7 @@ pub fn snapshot(tables: [&[u8]; 2], instant: u32, record: &mut [u8]) -> Result<(
     Ok(())
 }
 
-/// Answers the table whose record mentions a property last, and the place of the bytes in it.
+/// Returns the table whose record mentions a property last, and the offset of its bytes.
 pub fn property(tables: [&[u8]; 2], instant: u32, number: u8) -> Result<Place, Refusal> {
     let [lasting, passing] = check_tables(tables)?;
     let property = usize::from(number);
@@ -95,18 +95,19 @@ pub fn property(tables: [&[u8]; 2], instant: u32, number: u8) -> Result<Place, R
     }))
 }
 
-/// Answers the life times and the properties of the permanent state of sound records, or 21, 20 or 22.
+/// Returns the life times and the properties of the permanent state of sound records, or 21, 20 or
+/// 22.
 pub fn state_at(kinds: [&[Record]; 2], instant: u32) -> Result<([u32; 2], [&Part; 8]), Refusal> {
     Line::at(kinds, instant)?.state()
 }
 
-/// Answers the BASELINEs and the PERMDELTAs of sound records.
+/// Returns the BASELINEs and the PERMDELTAs of sound records.
 pub fn by_kind(records: &[Record]) -> [&[Record]; 2] {
     let (baselines, changes) = records.split_at(records.partition_point(|one| one[0] == 1));
     [baselines, changes]
 }
 
-/// Answers the records of both tables, or the first refusal, 1 to 8.
+/// Returns the records of both tables, or the first refusal, 1 to 8.
 fn check_tables([permanent, temporary]: [&[u8]; 2]) -> Result<[&[Record]; 2], Refusal> {
     let lasting = check_table(permanent, 0..=0)?;
     let passing = check_table(temporary, 1..=1)?;
@@ -116,7 +117,7 @@ fn check_tables([permanent, temporary]: [&[u8]; 2]) -> Result<[&[Record]; 2], Re
     Ok([lasting, passing])
 }
 
-/// Answers the record that is to be written, or 19 or 23.
+/// Returns the record that is to be written, or 19 or 23.
 fn check_asked(instant: u32, record: &mut [u8]) -> Result<&mut Record, Refusal> {
     if instant == NONE {
         return Err(Refusal::Asked);
@@ -124,25 +125,25 @@ fn check_asked(instant: u32, record: &mut [u8]) -> Result<&mut Record, Refusal> 
     record.try_into().map_err(|_| Refusal::Buffer)
 }
 
-/// Answers the eight properties of a record.
+/// Returns the eight properties of a record.
 pub fn parts_of(record: &Record) -> &[Part; 8] {
     let (parts, _) = record[32..].as_chunks();
     parts.try_into().expect("192 bytes are eight properties")
 }
 
-/// Answers whether a record is counted and its period has the instant. A cancelled record has no
+/// Returns whether a record is counted and its period has the instant. A cancelled record has no
 /// begin, and "none" is above every instant.
 fn holds(record: &Record, instant: u32) -> bool {
     number(record, BEGIN) <= instant && instant < number(record, END)
 }
 
-/// Answers the instant and the sequence number of a change as one number that rises as they do.
+/// Returns the instant and the sequence number of a change as one number with the same order.
 pub fn turn(record: &Record) -> u64 {
     u64::from(number(record, BEGIN)) << 32 | u64::from(number(record, 4))
 }
 
 impl<'a> Line<'a> {
-    /// Answers what is applied at an instant, or 21 or 20.
+    /// Returns what is applied at an instant, or 21 or 20.
     fn at([baselines, changes]: [&'a [Record]; 2], instant: u32) -> Result<Line<'a>, Refusal> {
         let mut anchors = baselines.iter().filter(|one| holds(one, instant));
         let (anchor, after) = if let Some(baseline) = anchors.next() {
@@ -162,7 +163,7 @@ impl<'a> Line<'a> {
         })
     }
 
-    /// Answers the only opening by an instant, or 21 or 20.
+    /// Returns the only opening by an instant, or 21 or 20.
     fn opening(changes: &'a [Record], instant: u32) -> Result<&'a Record, Refusal> {
         let mut openings = changes
             .iter()
@@ -174,7 +175,7 @@ impl<'a> Line<'a> {
         }
     }
 
-    /// Answers the changes that are applied, with their turns, as they are stored.
+    /// Returns the changes that are applied, with their turns, as they are stored.
     fn changes(&self) -> impl Iterator<Item = (u64, &'a Record)> {
         let (after, instant) = (self.after, self.instant);
         self.changes
@@ -183,7 +184,7 @@ impl<'a> Line<'a> {
             .filter(move |(turn, change)| *turn > after && holds(change, instant))
     }
 
-    /// Makes a latest that the anchor said.
+    /// Makes a latest value from the anchor.
     fn said<T>(&self, said: T) -> Latest<T> {
         Latest {
             turn: self.after,
@@ -191,7 +192,7 @@ impl<'a> Line<'a> {
         }
     }
 
-    /// Answers 22 where a life end is given and reached.
+    /// Returns 22 if a life end is given and reached.
     fn check_life(&self, life_end: u32) -> Result<(), Refusal> {
         if life_end <= self.instant {
             return Err(Refusal::Withdrawn);
@@ -199,7 +200,7 @@ impl<'a> Line<'a> {
         Ok(())
     }
 
-    /// Answers the life times and the properties of the permanent state, or 22.
+    /// Returns the life times and the properties of the permanent state, or 22.
     fn state(&self) -> Result<([u32; 2], [&'a Part; 8]), Refusal> {
         let mut parts = parts_of(self.anchor).each_ref().map(|part| self.said(part));
         let mut life = [LIFE_BEGIN, LIFE_END].map(|at| self.said(number(self.anchor, at)));
@@ -220,7 +221,7 @@ impl<'a> Line<'a> {
         Ok((life, parts.map(|latest| latest.said)))
     }
 
-    /// Answers the record that mentions a property last, if one does, or 22.
+    /// Returns the record that mentions a property last, if one does, or 22.
     fn last_mention(&self, property: usize) -> Result<Option<&'a Record>, Refusal> {
         let mut last = self.said(self.anchor);
         let mut life_end = self.said(number(self.anchor, LIFE_END));

@@ -1,12 +1,13 @@
-//! A walk from change instant to change instant by the times of the records, noted once: each state goes on
-//! from the one before where it can.
+//! A walk from change instant to change instant. It notes the times of the records once, and
+//! continues each state from the one before if it can.
 
-use super::derive::{Standing, NOTHING};
+use super::standing::{Standing, NOTHING};
 use super::state::{state_at, BEGIN, END, LIFE_BEGIN, LIFE_END};
 use super::{number, Record, MOST, NONE};
 use crate::refusal::Refusal;
 
-/// The times of records, as they stand, BASELINEs before PERMDELTAs. A cancelled record has no times.
+/// The times of records in the order of the table, BASELINEs before PERMDELTAs. A cancelled record
+/// has no times.
 struct Times {
     begins: [u32; MOST],
     ends: [u32; MOST],
@@ -15,8 +16,8 @@ struct Times {
     count: usize,
 }
 
-/// Goes from change instant to change instant of BASELINEs and PERMDELTAs; hands over each standing with
-/// its period, or answers 21.
+/// Goes from change instant to change instant of BASELINEs and PERMDELTAs; calls the closure for
+/// each standing with its period, or returns 21.
 pub fn walk(
     kinds: [&[Record]; 2],
     mut each: impl FnMut(&Standing, [u32; 2]),
@@ -59,7 +60,7 @@ pub fn walk(
     Ok(())
 }
 
-/// Answers the last instant at which a PERMDELTA opens the life, or 0.
+/// Returns the last instant at which a PERMDELTA opens the life, or 0.
 fn last_opening(changes: &[Record]) -> u32 {
     let opens = |change: &&Record| number(change, LIFE_BEGIN) != NONE;
     let begins = changes.iter().filter(opens).map(|one| number(one, BEGIN));
@@ -84,8 +85,8 @@ impl Times {
         times
     }
 
-    /// Answers the first change instant from a time on, or none. What is before the time is farther from it
-    /// than "none", since it wraps around.
+    /// Returns the first change instant from a time on, or none. The distance to an earlier instant
+    /// wraps around, so it is larger than the distance to "none".
     fn first_since(&self, from: u32) -> u32 {
         let nearest = |best: u32, times: &[u32]| {
             let distances = times.iter().map(|time| time.wrapping_sub(from));
@@ -96,7 +97,7 @@ impl Times {
         from + nearest(ends, &self.gones[..self.front])
     }
 
-    /// Answers how many BASELINEs hold at an instant, and the place where one alone stands.
+    /// Returns how many BASELINEs hold at an instant, and the index of the only one.
     fn holding(&self, instant: u32) -> (usize, usize) {
         let periods = self.begins[..self.front].iter().zip(&self.ends);
         let holds = periods.map(|(&begin, &end)| begin <= instant && instant < end);

@@ -1,31 +1,29 @@
-//! Further calls of a round, for a library that is linked: feeds held against the table of their set,
-//! tables with each of their bytes damaged and records with fields changed put to every call, and tables
-//! that came out put in again.
+//! Further calls of a round, for a linked library. Feeds are compared with the table of their set.
+//! Tables with each byte damaged and records with changed fields go through every call. Resulting
+//! tables are fed back.
 
 use super::{Asked, Player, Round};
-use crate::histories::History;
+use crate::fixtures::{self, FEATURE, KIND, RECORD, TIMES};
+use crate::histories::some_tables;
+use crate::layout::{bytes_of, RECORD_BYTES};
 use crate::random::Random;
-use crate::record::{Side, NONE, RECORD_BYTES};
+use crate::record::{Side, NONE};
 use crate::slice;
 use crate::supply;
 use crate::tables::{Product, Question, Tables};
-use crate::vectors::chance::drift;
-use crate::vectors::deriving::bytes_of;
-use crate::vectors::parts::edge_part;
-use crate::vectors::sample::{self, FEATURE, KIND, RECORD, TIMES};
 use std::collections::BTreeMap;
 
-/// Who calls are put to, and who holds a table against another.
+/// A player that also compares tables.
 pub trait Judge: Player {
-    /// Takes a table that came out, and the one that it should be. A fault ends the round.
+    /// Compares a resulting table with the expected one. A fault ends the round.
     fn hold(&mut self, table: &[u8], right: &[u8]) -> Result<(), Self::Fault>;
 }
 
-/// The records of a round that drift, and the small histories whose baselines are put in again.
+/// How many records of a round drift, and how many small histories have their baselines fed back.
 const DRIFTING: usize = 300;
 const FED_BACK: usize = 20;
 
-/// Plays the further calls of a round, at tables of at most so many records.
+/// Plays the further calls of a round, on tables of at most this many records.
 pub fn further<P: Judge>(player: &mut P, seed: u64, most: usize) -> Result<(), P::Fault> {
     let mut round = Round::new(player, !seed, most);
     round.feed()?;
@@ -34,7 +32,7 @@ pub fn further<P: Judge>(player: &mut P, seed: u64, most: usize) -> Result<(), P
     round.fed_back_histories()
 }
 
-/// A set of slices, and a feed of them: each once or more, and bad slices among them.
+/// A set of slices, and a feed with each of them at least once and with bad slices.
 struct Feed {
     side: Side,
     set: Vec<Vec<u8>>,
@@ -42,7 +40,7 @@ struct Feed {
 }
 
 impl Feed {
-    /// Makes a feed of so many keys, up to three corrections each.
+    /// Makes a feed of this many keys, up to three corrections each.
     fn new(random: &mut Random, side: Side, keys: usize) -> Feed {
         let set = supply::corrections(random, side, keys);
         let mut slices = supply::mingled(random, set.clone());
@@ -51,7 +49,7 @@ impl Feed {
         Feed { side, set, slices }
     }
 
-    /// Works out the table of the set afresh: of each key the highest correction, the keys rising.
+    /// Builds the table of the set from scratch: the highest correction of each key, in key order.
     fn table(&self, length: usize, fill: u8) -> Vec<u8> {
         let mut records: BTreeMap<_, &Vec<u8>> = BTreeMap::new();
         for slice in &self.set {
@@ -64,18 +62,18 @@ impl Feed {
             }
         }
         let records: Vec<_> = records.values().map(|one| one[RECORD..].to_vec()).collect();
-        sample::table(self.side, &records, length, fill)
+        fixtures::table(self.side, &records, length, fill)
     }
 }
 
-/// Answers the header and the counted records of a table, as far as they are there.
+/// Returns the header and the counted records of a table, as far as the table reaches.
 fn counted(table: &[u8]) -> &[u8] {
     let count = u16::from_be_bytes([table[6], table[7]]);
     &table[..bytes_of(count.into()).min(table.len())]
 }
 
 impl<P: Judge> Round<'_, P> {
-    /// Plays a feed in two orders and holds each table against the set's, which is then used.
+    /// Plays a feed in two orders, compares each table with the set's, and plays uses of that.
     fn feed(&mut self) -> Result<(), P::Fault> {
         let (side, most) = (self.side(), self.most);
         let size = self.random.pick(&[4, 16, 64, most]);
@@ -92,14 +90,14 @@ impl<P: Judge> Round<'_, P> {
             self.player.hold(&table, &right)?;
             supply::shuffle(&mut self.random, &mut feed.slices);
         }
-        let mut tables = self.some_history();
+        let mut tables = some_tables(&mut self.random);
         *tables.of_side(side) = right;
         self.fed_back(tables)
     }
 
     /// Plays every call on the tables of a small history with each byte of one of them damaged.
     fn damaged_tables(&mut self) -> Result<(), P::Fault> {
-        let mut tables = self.some_history();
+        let mut tables = some_tables(&mut self.random);
         let (side, instant) = (self.side(), self.some_instant(&tables));
         let table = tables.of_side(side).clone();
         for offset in 0..table.len().min(counted(&table).len() + RECORD_BYTES) {
@@ -115,47 +113,41 @@ impl<P: Judge> Round<'_, P> {
         Ok(())
     }
 
-    /// Plays records that are mostly sound, with a field or two changed and with doubles at their ends: as
-    /// slices that arrive, and as tables of one record that are used.
+    /// Plays records that are mostly sound, with a field or two changed and with doubles at their
+    /// ends: as slices that arrive, and as tables of one record that are used.
     fn drifting_records(&mut self) -> Result<(), P::Fault> {
-        let starts = [sample::sound_cases(), sample::cancelled_cases()].concat();
+        let starts = [fixtures::sound_cases(), fixtures::cancelled_cases()].concat();
         for _ in 0..DRIFTING {
             let mut case = starts[self.random.below(starts.len())].clone();
             let side = Side::of(case.side).expect("a sound case is of a side");
             for _ in 0..=self.random.below(2) {
                 case = match self.random.below(3) {
                     0 => {
-                        let part = edge_part(&mut self.random);
+                        let part = supply::edge_part(&mut self.random);
                         case.with_part(self.random.below(8), &part)
                     }
-                    _ => drift(case, &mut self.random),
+                    _ => supply::drift(case, &mut self.random),
                 };
             }
             let mut tables = Tables::of(&[]);
             tables.of_side(side).resize(bytes_of(2), 0);
             self.arrive(tables.of_side(side), &case.slice)?;
-            *tables.of_side(side) = sample::table(side, &[case.record()], bytes_of(1), 0);
+            *tables.of_side(side) = fixtures::table(side, &[case.record()], bytes_of(1), 0);
             let instant = self.random.pick(&[100, 120, 150, 200]);
             self.some_uses(&tables, instant)?;
         }
         Ok(())
     }
 
-    /// Answers the tables of a history of a few records.
-    fn some_history(&mut self) -> Tables {
-        let mut history = History::new(&mut self.random);
-        history.change(&mut self.random);
-        history.tables().clone()
-    }
-
-    /// Answers an instant that matters in two tables, or now and then any other.
+    /// Returns an instant that matters in two tables, or sometimes any other.
     fn some_instant(&mut self, tables: &Tables) -> u32 {
         let mut instants = tables.instants();
         instants.push(self.random.bits() as u32 % NONE);
         self.random.pick(&instants)
     }
 
-    /// Plays every question about two tables at an instant, of one property, and what is made of them.
+    /// Plays every question about two tables at an instant, of one property, and what is made of
+    /// them.
     fn some_uses(&mut self, tables: &Tables, instant: u32) -> Result<(), P::Fault> {
         if self.record.len() != RECORD_BYTES {
             self.record = vec![self.random.byte(); RECORD_BYTES];
@@ -168,17 +160,17 @@ impl<P: Judge> Round<'_, P> {
         self.products(&tables.permanent, &[bytes_of(18)])
     }
 
-    /// Plays small histories, and the tables that are made of them.
+    /// Plays small histories, and the tables that are derived from them.
     fn fed_back_histories(&mut self) -> Result<(), P::Fault> {
         for _ in 0..FED_BACK {
-            let tables = self.some_history();
+            let tables = some_tables(&mut self.random);
             self.fed_back(tables)?;
         }
         Ok(())
     }
 
-    /// Plays uses of two tables, and of the permanent one's baselines, as they are and as arrivals leave
-    /// them; the baselines of baselines are held to be the same.
+    /// Plays uses of two tables, and of the baselines of the permanent one, before and after
+    /// arrivals; checks that the baselines of the baselines are the same.
     fn fed_back(&mut self, mut tables: Tables) -> Result<(), P::Fault> {
         let instant = self.some_instant(&tables);
         self.some_uses(&tables, instant)?;
@@ -204,8 +196,8 @@ mod tests {
     use super::*;
     use crate::table::{Sides, Table};
 
-    /// Each slice of the set comes, some more than once, and bad ones among them; the table has every key
-    /// once, under its highest correction.
+    /// The feed has each slice of the set, some more than once, and bad ones; the table has every
+    /// key once, with its highest correction.
     #[test]
     fn feeds_are_what_they_are_called() {
         let feed = Feed::new(&mut Random::new(1), Side::Permanent, 40);

@@ -1,9 +1,10 @@
 //! Histories with one anchor, with none and with two, and the changes that are applied after it.
 
-use super::brief::{base, baseline, change, opening, passing, SEQUENCES};
-use super::sample::{code, Case};
 use super::Script;
+use crate::fixtures::brief::{base, change, from_to, opening, passing, SEQUENCES};
+use crate::fixtures::{code, Case};
 use crate::record::NONE;
+use crate::tables::Tables;
 
 /// Adds every history about anchors.
 pub fn add(script: &mut Script) {
@@ -14,11 +15,6 @@ pub fn add(script: &mut Script) {
     equal_instants(script);
     changes_about_an_opening(script);
     first_and_last_instants(script);
-}
-
-/// Makes a BASELINE of a period, its life begun with it.
-fn from_to(sequence: u32, begin: u32, end: u32) -> Case {
-    baseline(sequence, [begin, end, begin, NONE], sequence as u16)
 }
 
 /// Adds two BASELINEs that overlap, touch, lie apart or begin together, and three.
@@ -60,7 +56,7 @@ fn two_openings(script: &mut Script) {
     }
 }
 
-/// Adds a BASELINE beside one, two and three openings, before, in and after its period.
+/// Adds a BASELINE with one, two and three openings, before, in and after its period.
 fn baselines_and_openings(script: &mut Script) {
     script.title("anchors: a BASELINE beside openings");
     let anchor = from_to(1, 100, 200);
@@ -95,7 +91,8 @@ fn changes_about_a_begin(script: &mut Script) {
     }
 }
 
-/// Adds changes at equal instants with sequence numbers both ways, of the same and of other properties.
+/// Adds changes at equal instants with sequence numbers both ways, of the same and of other
+/// properties.
 fn equal_instants(script: &mut Script) {
     script.title("anchors: changes at equal instants");
     for [one, other] in SEQUENCES {
@@ -111,7 +108,8 @@ fn equal_instants(script: &mut Script) {
     }
 }
 
-/// Adds an opening with changes before and after it in the order, of the same and of other properties.
+/// Adds an opening with changes before and after it in the order, of the same and of other
+/// properties.
 fn changes_about_an_opening(script: &mut Script) {
     script.title("anchors: changes before and after an opening in the order");
     let anchor = opening(5, 100, 1);
@@ -152,12 +150,12 @@ fn first_and_last_instants(script: &mut Script) {
             passing.to_vec(),
             [others, passing].concat(),
         ] {
-            let tables = crate::tables::Tables::of(&[vec![anchor.clone()], cases].concat());
+            let tables = Tables::of(&[vec![anchor.clone()], cases].concat());
             script.ask_at(&tables, &instants, &[0, 1]);
         }
     }
     for opened in [opening(1, 0, 2), opening(1, last, 2)] {
-        let tables = crate::tables::Tables::of(&[opened, passing(1, 0, last, 5)]);
+        let tables = Tables::of(&[opened, passing(1, 0, last, 5)]);
         script.ask_at(&tables, &instants, &[0, 1]);
     }
 }

@@ -1,8 +1,10 @@
 //! Asks for the property rule over the eight properties of a record.
 
-use super::sample::{broken_parts, choices, code, mentions, sound_parts, unmentioned, Area, Part};
 use super::Script;
-use crate::property::{PROPERTIES, PROPERTY_BYTES};
+use crate::fixtures::{
+    broken_parts, choices, code, mentions, sound_parts, unmentioned, Area, Part,
+};
+use crate::layout::{PROPERTIES, PROPERTY_BYTES};
 use crate::random::Random;
 
 /// Adds every ask for the property rule.
@@ -16,7 +18,7 @@ pub fn add(script: &mut Script) {
     flipped_areas(script);
 }
 
-/// Answers eight sound properties of mixed forms, two of them not mentioned.
+/// Returns eight sound properties of mixed forms, two of them not mentioned.
 fn mixed() -> Area {
     let mut area = mentions();
     area[2] = unmentioned();
@@ -24,7 +26,7 @@ fn mixed() -> Area {
     area
 }
 
-/// Adds sound properties: mixed, every sound part in every place, and every choice of mentions.
+/// Adds sound properties: mixed, every sound part in every position, and every choice of mentions.
 fn sound_areas(script: &mut Script) {
     script.title("properties: sound");
     script.ask_area(&mentions().concat());
@@ -39,7 +41,7 @@ fn sound_areas(script: &mut Script) {
     choices().for_each(|area| script.ask_area(&area.concat()));
 }
 
-/// Answers the properties with one replaced.
+/// Returns the properties with one replaced.
 fn with(area: &Area, index: usize, part: &Part) -> Area {
     let mut area = *area;
     area[index] = *part;
@@ -72,7 +74,7 @@ fn two_broken(script: &mut Script) {
     }
 }
 
-/// Answers whether a length is a number of whole properties, or one byte more or less.
+/// Returns whether a length is a number of whole properties, or one byte more or less.
 fn beside(length: usize) -> bool {
     matches!(length % PROPERTY_BYTES, 0 | 1 | 23)
 }
@@ -111,7 +113,7 @@ fn bytes_beyond(script: &mut Script) {
     script.ask_area(&bytes);
 }
 
-/// Adds properties replaced at random, one after the other, now and then by a broken one.
+/// Adds properties replaced at random, one after the other, sometimes by a broken one.
 fn random_areas(script: &mut Script) {
     script.title("properties: random choices");
     let mut random = Random::new(4);
@@ -128,7 +130,7 @@ fn random_areas(script: &mut Script) {
     }
 }
 
-/// Adds mixed sound properties with one to four bits turned over.
+/// Adds mixed sound properties with one to four bits flipped.
 fn flipped_areas(script: &mut Script) {
     script.title("properties: bits turned over");
     let mut random = Random::new(5);

@@ -1,20 +1,21 @@
 //! The asks about an instant.
 
-use super::format::{changes, digits, instant_line, line, record_line, table_lines};
+use super::format::{changes, digits, instant_line, line, record_line, table_lines, value_line};
 use super::format::{EXCHANGE, RECORD_BYTES, TABLE_BYTES};
-use super::sample::Case;
 use super::{refused, Script};
+use crate::fixtures::Case;
+use crate::layout::RECORD_BYTES as WHOLE;
 use crate::question::{permanent_state, property, snapshot, Part};
-use crate::record::{Side, RECORD_BYTES as WHOLE};
+use crate::record::Side;
 use crate::refusal::Refusal;
 use crate::tables::{Question, Tables};
 
-/// Answers the word of a written record, or the number of the refusal.
+/// Returns the word of a written record, or the number of the refusal.
 pub fn written(written: Result<(), Refusal>) -> String {
     written.map_or_else(refused, |()| "written".to_string())
 }
 
-/// Answers the words of a property question: which table, where, and the bytes.
+/// Returns the words of a property question: which table, where, and the bytes.
 pub fn found(part: Result<Option<Part>, Refusal>) -> String {
     let place = |part: Part| format!("{} {} {}", part.side, part.place, digits(&part.bytes));
     part.map_or_else(refused, |part| {
@@ -44,13 +45,18 @@ impl Script {
             _ => ('n', snapshot(table, other, instant, &mut after)),
         };
         let answer = written(answer) + &changes(record, &after);
-        lines.extend(self.set_record(record));
+        lines.extend(value_line(
+            &self.made.record,
+            record,
+            RECORD_BYTES,
+            record_line,
+        ));
         self.made.record = after;
         self.ask(lines, line(letter, &[]), answer);
     }
 
-    /// Asks for the permanent state, the snapshot and some properties at instants, into what the last
-    /// of them left, or after a title into a new record.
+    /// Asks for the permanent state, the snapshot and some properties at instants, into the last
+    /// record, or after a title into a new one.
     pub fn ask_at(&mut self, tables: &Tables, instants: &[u32], properties: &[u8]) {
         for &instant in instants {
             for question in [Question::State, Question::Snapshot] {
@@ -63,7 +69,7 @@ impl Script {
         }
     }
 
-    /// Answers the record that the next state goes into.
+    /// Returns the record that the next state goes into.
     pub fn next_record(&mut self) -> Vec<u8> {
         let is_new = std::mem::take(&mut self.is_begun) || self.made.record.len() != WHOLE;
         match is_new {
@@ -72,7 +78,7 @@ impl Script {
         }
     }
 
-    /// Asks about the tables of some slices at and beside each of their times.
+    /// Asks about the tables of some slices at and next to each of their times.
     pub fn ask_history(&mut self, cases: &[Case], properties: &[u8]) {
         let tables = Tables::of(cases);
         self.ask_at(&tables, &tables.instants(), properties);
@@ -98,7 +104,7 @@ impl Script {
         self.ask_question(tables, instant, Question::Property(number), &[]);
     }
 
-    /// Changes the table and the other one; answers the lines that do so.
+    /// Changes the table and the other one; returns the lines that do so.
     fn set_tables(&mut self, table: &[u8], other: &[u8]) -> Vec<String> {
         assert!(table.len() <= TABLE_BYTES);
         let mut lines = vec![];
@@ -112,20 +118,10 @@ impl Script {
         lines
     }
 
-    /// Changes the instant; answers the line that does so, if one is needed.
+    /// Changes the instant; returns the line that does so, if one is needed.
     fn set_instant(&mut self, instant: u32) -> Option<String> {
         let line = (self.made.instant != instant).then(|| instant_line(instant));
         self.made.instant = instant;
         line
-    }
-
-    /// Changes the record to one of one value; answers the line that does so, if one is needed.
-    fn set_record(&mut self, bytes: &[u8]) -> Option<String> {
-        if self.made.record == bytes {
-            return None;
-        }
-        let value = bytes.first().copied().unwrap_or(0);
-        assert!(bytes.len() <= RECORD_BYTES && bytes.iter().all(|byte| *byte == value));
-        Some(record_line(bytes.len(), value))
     }
 }

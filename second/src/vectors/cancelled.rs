@@ -1,10 +1,10 @@
 //! Cancelled slices that still say something.
 
-use super::sample::{
+use super::Script;
+use crate::fixtures::{
     broken_parts, cancelled_cases, sound_cases, unmentioned, Case, Time, FLAGS, KIND, PARTS, TIMES,
 };
-use super::Script;
-use crate::property::PROPERTIES;
+use crate::layout::PROPERTIES;
 use crate::record::NONE;
 
 /// Adds every ask about cancelled slices.
@@ -43,7 +43,7 @@ fn with_times(script: &mut Script) {
     }
 }
 
-/// Adds each broken part in some places: 13, not 14.
+/// Adds each broken part in some positions: 13, not 14.
 fn with_broken_properties(script: &mut Script) {
     script.title("cancelled: broken properties");
     for base in cancelled_cases() {

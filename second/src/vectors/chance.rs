@@ -1,13 +1,11 @@
-//! Random slices, and sound slices with bits turned over.
+//! Random slices, and sound slices with bits flipped.
 
-use super::sample::{
-    broken_parts, cancelled_cases, sound_cases, sound_parts, unmentioned, Case, FEATURE, FLAGS,
-    KIND, PARTS, SPARE, TIMES,
-};
 use super::Script;
-use crate::property::PROPERTIES;
+use crate::fixtures::{
+    cancelled_cases, sound_cases, Case, FEATURE, FLAGS, KIND, PARTS, SPARE, TIMES,
+};
 use crate::random::Random;
-use crate::record::NONE;
+use crate::supply::drift;
 
 /// Adds every random ask about slices.
 pub fn add(script: &mut Script) {
@@ -36,7 +34,7 @@ fn random_slices(script: &mut Script) {
     }
 }
 
-/// Adds each sound and cancelled slice with one to four bits turned over, anywhere or in its head.
+/// Adds each sound and cancelled slice with one to four bits flipped, anywhere or in its head.
 fn flipped_slices(script: &mut Script) {
     script.title("slice: bits turned over");
     let mut random = Random::new(7);
@@ -53,7 +51,7 @@ fn flipped_slices(script: &mut Script) {
     }
 }
 
-/// Adds slices that drift: a field or two changed each time, and now and then a sound one again.
+/// Adds slices that drift: a field or two changed each time, and sometimes a sound one again.
 fn drifting_slices(script: &mut Script) {
     script.title("slice: random fields");
     let mut random = Random::new(8);
@@ -68,42 +66,4 @@ fn drifting_slices(script: &mut Script) {
         }
         script.ask_slice(&case);
     }
-}
-
-/// Answers the case with one field changed at random, mostly to something that could be right.
-pub fn drift(case: Case, random: &mut Random) -> Case {
-    let index = random.below(PROPERTIES);
-    match random.below(24) {
-        0 => case.with_byte(KIND, random.pick(&[1, 1, 2, 2, 3, 4])),
-        1 => case.with_byte(FLAGS, random.pick(&[0, 1, 1, 2])),
-        2 => case.with_side(random.pick(&[0, 1])),
-        3 => case.with_byte(SPARE + index, random.pick(&[0, 1])),
-        4 => case.with_part(index, &random.pick(&broken_parts())),
-        5..=12 => drift_time(case, random),
-        13 => case.with_byte(KIND + 2 + random.below(6), random.byte()),
-        14..=18 => case.with_part(index, &unmentioned()),
-        _ => case.with_part(index, &random.pick(&sound_parts())),
-    }
-}
-
-/// Answers the case with one of its times changed at random.
-fn drift_time(mut case: Case, random: &mut Random) -> Case {
-    let place = TIMES + 4 * random.below(4);
-    let time: u32 = random.pick(&[
-        0,
-        99,
-        100,
-        101,
-        120,
-        140,
-        150,
-        200,
-        300,
-        NONE - 1,
-        NONE,
-        NONE,
-        NONE,
-    ]);
-    case.slice[place..place + 4].copy_from_slice(&time.to_be_bytes());
-    case
 }

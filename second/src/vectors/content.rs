@@ -1,8 +1,8 @@
 //! Slices that mention more or less.
 
-use super::sample::{broken_parts, choices, nil, sound_parts, unmentioned, Case, Part, Time};
 use super::Script;
-use crate::property::PROPERTIES;
+use crate::fixtures::{broken_parts, choices, nil, sound_parts, unmentioned, Case, Part, Time};
+use crate::layout::PROPERTIES;
 use crate::record::Kind;
 
 /// Adds every ask about content.
@@ -17,7 +17,7 @@ pub fn add(script: &mut Script) {
     in_each_place(script, &broken_parts());
 }
 
-/// Answers a slice of each kind, and PERMDELTAs that give a life time.
+/// Returns a slice of each kind, and PERMDELTAs that give a life time.
 fn bases() -> Vec<Case> {
     let opening = Case::any(Kind::PermDelta).with_time(Time::LifeBegin, 100);
     let closing = Case::any(Kind::PermDelta).with_time(Time::LifeEnd, 100);
@@ -28,7 +28,7 @@ fn bases() -> Vec<Case> {
         .collect()
 }
 
-/// Adds each part in each place of each kind: among nils in a BASELINE, alone in the others.
+/// Adds each part in each position of each kind: among nils in a BASELINE, alone in the others.
 fn in_each_place(script: &mut Script, parts: &[Part]) {
     for kind in Kind::ALL {
         let others = if kind == Kind::Baseline {

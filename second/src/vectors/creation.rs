@@ -1,7 +1,7 @@
 //! Asks for a new table.
 
-use super::sample::FEATURE;
 use super::Script;
+use crate::fixtures::FEATURE;
 use crate::random::Random;
 
 /// Adds every ask for a new table.
@@ -13,7 +13,7 @@ pub fn add(script: &mut Script) {
     random_bytes(script);
 }
 
-/// Adds places of every length about the header's, and of others, with each fill and some sides.
+/// Adds buffers of every length around the header's, and of others, with each fill and some sides.
 fn lengths(script: &mut Script) {
     script.title("new table: lengths");
     let long = [255, 256, 257, 480, 57_375, 57_376, 57_377, 65_535, 65_536];
@@ -56,7 +56,7 @@ fn features(script: &mut Script) {
     }
 }
 
-/// Adds tables made anew where one was: all of the header is written, and nothing behind it.
+/// Adds new tables over old ones: all of the header is written, and nothing after it.
 fn over_old_tables(script: &mut Script) {
     script.title("new table: over an old one");
     let bytes: Vec<u8> = (0..=255).rev().collect();
@@ -69,7 +69,7 @@ fn over_old_tables(script: &mut Script) {
     }
 }
 
-/// Adds places with random bytes.
+/// Adds buffers with random bytes.
 fn random_bytes(script: &mut Script) {
     script.title("new table: over random bytes");
     let mut random = Random::new(9);

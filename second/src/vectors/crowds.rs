@@ -1,9 +1,10 @@
 //! Full tables of 256 records.
 
-use super::brief::{baseline, cancelling, change, passing};
-use super::sample::{code, Case};
 use super::Script;
-use crate::record::{NONE, RECORD_BYTES};
+use crate::fixtures::brief::{baseline, cancelling, change, mention_only, passing};
+use crate::fixtures::Case;
+use crate::layout::RECORD_BYTES;
+use crate::record::NONE;
 use crate::tables::Tables;
 
 /// Adds every full table.
@@ -13,10 +14,9 @@ pub fn add(script: &mut Script) {
     cancelled_and_one(script);
 }
 
-/// Answers a delta that mentions one property alone, with its sequence number as the value.
+/// Returns a delta that mentions one property alone, with its sequence number as the value.
 fn spread(case: Case, sequence: u32) -> Case {
-    case.with_part(0, &super::sample::unmentioned())
-        .with_part(sequence as usize % 8, &code(sequence as u16))
+    mention_only(case, sequence as usize % 8, sequence as u16)
 }
 
 /// Makes 256 TEMPDELTAs, each around the next.
@@ -78,7 +78,8 @@ fn rows_of_baselines(script: &mut Script) {
     script.ask_at(&Tables::of(&cases), &[2569, 2599, 2600], &[0]);
 }
 
-/// Adds 255 cancelled records of either table, and one that counts: the first, one in the middle, the last.
+/// Adds 255 cancelled records in each table and one that counts: the first, one in the middle, the
+/// last.
 fn cancelled_and_one(script: &mut Script) {
     script.title("full tables: one counted record among cancelled ones");
     for counted in [1, 128, 256] {

@@ -1,17 +1,18 @@
-//! Asks for derived baselines: by theme, with faults, and into outputs of every length that matters.
+//! Asks for derived baselines: by theme, with faults, and into outputs of every length that
+//! matters.
 
-use super::brief::{base, baseline, change, closing, opening};
-use super::deriving::bytes_of;
 use super::rules::{self, at, set};
-use super::sample::{code, Case};
 use super::themes::paper;
 use super::Script;
+use crate::fixtures::brief::{base, baseline, change, closing, opening};
+use crate::fixtures::rows::{apart, touching};
+use crate::layout::{bytes_of, RECORD_BYTES};
 use crate::random::Random;
-use crate::record::{Kind, Side, NONE, RECORD_BYTES};
+use crate::record::{Side, NONE};
 use crate::supply;
-use crate::tables::{Product, Tables};
+use crate::tables::{permanent, Product};
 
-/// The output of most asks: room for eight records, and a few bytes behind them.
+/// The output of most asks: room for eight records, and a few bytes after them.
 const LENGTH: usize = bytes_of(8) + 5;
 
 /// How many random histories are asked about.
@@ -32,7 +33,7 @@ pub fn add(script: &mut Script) {
     any_tables(script);
 }
 
-/// Asks for the derived baselines of a table, into what the last ask left.
+/// Asks for the derived baselines of a table, into the last output.
 fn ask(script: &mut Script, table: &[u8]) {
     script.ask_next(Product::Derived, table, LENGTH);
 }
@@ -47,21 +48,15 @@ fn sound() -> Vec<u8> {
     rules::bases()[0].clone()
 }
 
-/// Answers the table with a second BASELINE where its second record was.
-fn with_two_anchors(table: Vec<u8>) -> Vec<u8> {
-    let other = Case::usual(Kind::Baseline).with_sequence(8);
-    set(table, at(1), &other.record())
-}
-
-/// Adds every fault of a table alone, in pairs and in chains, into an output that is long enough, and
-/// into one that is not; the other side's table too.
+/// Adds every fault of a table alone, in pairs and in chains, into an output that is long enough,
+/// and into one that is not; the other side's table too.
 fn faults(script: &mut Script) {
     script.title("derived: faults of a table alone, in pairs, and all from a number on");
-    let [permanent, temporary] = rules::bases();
-    for (table, _) in rules::spoiled(&permanent) {
+    let [lasting, passing] = rules::bases();
+    for (table, _) in rules::spoiled(&lasting) {
         ask_into(script, &table, LENGTH, 0x5c);
     }
-    for table in [permanent, temporary] {
+    for table in [lasting, passing] {
         for fault in rules::FAULTS {
             ask_into(script, &(fault.spoil)(table.clone()), 31, 0x5c);
         }
@@ -72,7 +67,7 @@ fn faults(script: &mut Script) {
 /// Adds two anchors, with each fault of a table, and into outputs of every length.
 fn faults_and_anchors(script: &mut Script) {
     script.title("derived: two anchors and another fault");
-    let anchors = with_two_anchors(sound());
+    let anchors = rules::with_two_anchors(sound());
     for fault in rules::FAULTS {
         let spoiled = (fault.spoil)(anchors.clone());
         ask_into(script, &spoiled, LENGTH, 0);
@@ -83,11 +78,11 @@ fn faults_and_anchors(script: &mut Script) {
     }
 }
 
-/// Makes a table that gives so many derived records: a BASELINE and changes after it.
+/// Makes a table that gives this many derived records: a BASELINE and changes after it.
 fn row(count: u32) -> Vec<u8> {
     let changes = (1..count).map(|index| change(index, 100 + 10 * index, index as u16));
     let anchor = (count > 0).then(base);
-    Tables::of(&changes.chain(anchor).collect::<Vec<_>>()).permanent
+    permanent(&changes.chain(anchor).collect::<Vec<_>>())
 }
 
 /// Adds outputs too short, exact and longer, of some values, for 0 to 4 derived records.
@@ -118,17 +113,17 @@ fn withdrawn_lengths(script: &mut Script) {
         vec![opening(1, 100, 1), closing(2, 150), change(3, 200, 4)],
     ];
     for cases in histories {
-        let table = Tables::of(&cases).permanent;
+        let table = permanent(&cases);
         for length in [bytes_of(1) - 1, bytes_of(1), bytes_of(2)] {
             ask_into(script, &table, length, 0xee);
         }
     }
 }
 
-/// Adds tables with bytes behind their records, which mean nothing, and with records not counted.
+/// Adds tables with bytes after their records, which mean nothing, and with records not counted.
 fn tables_with_a_rest(script: &mut Script) {
     script.title("derived: bytes behind the records of a table");
-    let table = Tables::of(&paper()).permanent;
+    let table = permanent(&paper());
     for rest in [1, 31, 223, 224, 225, 1000] {
         for fill in [0, 1, 0xff] {
             let longer = [&table[..], &vec![fill; rest]].concat();
@@ -141,33 +136,6 @@ fn tables_with_a_rest(script: &mut Script) {
     for place in 8..24 {
         ask(script, &set(table.clone(), place, &[0x80 ^ place as u8]));
     }
-}
-
-/// Makes an opening, BASELINEs apart from each other and perhaps a change at the end, as many as give
-/// so many derived records: a BASELINE gives two, since the opening is the anchor again at its end.
-pub fn apart(count: u32) -> Vec<u8> {
-    let apart = |index| baseline(index, [10 * index, 10 * index + 5, NONE, NONE], 2);
-    let mut cases: Vec<Case> = (1..=(count - 1) / 2).map(apart).collect();
-    cases.push(opening(1, 0, 1));
-    if count.is_multiple_of(2) {
-        cases.push(change(2, 9_000, 3).with_part(7, &code(4)));
-    }
-    Tables::of(&cases).permanent
-}
-
-/// Makes BASELINEs that touch and a change in each, the last one without end.
-pub fn touching(count: u32) -> Vec<u8> {
-    let end = |index| match index == count / 2 {
-        true => NONE,
-        false => 10 * index + 10,
-    };
-    let mut cases = vec![];
-    for index in 1..=count / 2 {
-        let times = [10 * index, end(index), 10, NONE];
-        cases.push(baseline(index, times, index as u16));
-        cases.push(change(count - index, 10 * index + 5, 3));
-    }
-    Tables::of(&cases).permanent
 }
 
 /// Adds 255, 256 and 257 derived records, into outputs too short, exact and longer.
@@ -184,9 +152,9 @@ fn many(script: &mut Script) {
         (255, bytes_of(255)),
         (258, 65_536),
     ] {
-        ask_into(script, &apart(count), length, 0xc3);
+        ask_into(script, &permanent(&apart(count)), length, 0xc3);
     }
-    let table = touching(256);
+    let table = permanent(&touching(256));
     ask_into(script, &table, bytes_of(256) - 1, 0);
     ask_into(script, &table, bytes_of(256) + 10, 0);
     let mut ended = row(256);
@@ -197,11 +165,11 @@ fn many(script: &mut Script) {
     ask_into(script, &set(ended, at(255) + 31, &[1]), bytes_of(256), 1);
 }
 
-/// Adds too many records: with a table too short for its count, with two anchors at the end, and as many
-/// as there can be.
+/// Adds too many records: with a table too short for its count, with two anchors at the end, and as
+/// many as there can be.
 fn too_many(script: &mut Script) {
     script.title("derived: too many records and another fault");
-    let table = apart(401);
+    let table = permanent(&apart(401));
     let last_but_one = table.len() - 3 * RECORD_BYTES;
     let overlap = set(table.clone(), last_but_one + 12, &NONE.to_be_bytes());
     let mut over = table.clone();
@@ -211,7 +179,7 @@ fn too_many(script: &mut Script) {
         overlap,
         set(over, 6, &[1, 1]),
         set(table, 31, &[1]),
-        apart(511),
+        permanent(&apart(511)),
     ] {
         for length in [0, bytes_of(256), 65_536] {
             ask_into(script, &table, length, 0x18);
@@ -244,18 +212,24 @@ mod tests {
     fn long_results_are_as_long_as_they_are_called() {
         let mut output = vec![0; bytes_of(256)];
         for count in [2, 255, 256] {
-            assert_eq!(derive(&apart(count), &mut output), Ok(count as usize));
+            assert_eq!(
+                derive(&permanent(&apart(count)), &mut output),
+                Ok(count as usize)
+            );
         }
         for count in [257, 258] {
-            assert_eq!(derive(&apart(count), &mut output), Err(Refusal::Buffer));
+            assert_eq!(
+                derive(&permanent(&apart(count)), &mut output),
+                Err(Refusal::Buffer)
+            );
         }
-        assert_eq!(derive(&touching(256), &mut output), Ok(256));
+        assert_eq!(derive(&permanent(&touching(256)), &mut output), Ok(256));
         for count in [0, 1, 4, 256] {
             assert_eq!(derive(&row(count), &mut output), Ok(count as usize));
         }
     }
 
-    /// Of two faults the earlier is answered, of two anchors and the output the anchors.
+    /// Of two faults the answer is the earlier; two anchors come before the output.
     #[test]
     fn the_earlier_fault_wins() {
         let number = |table: &[u8], length| {
@@ -265,7 +239,7 @@ mod tests {
         for (table, expected) in rules::spoiled(&sound()) {
             assert_eq!(number(&table, LENGTH), expected);
         }
-        let anchors = with_two_anchors(sound());
+        let anchors = rules::with_two_anchors(sound());
         assert_eq!([number(&anchors, 0), number(&anchors, LENGTH)], [21; 2]);
         for fault in rules::FAULTS {
             assert_eq!(number(&(fault.spoil)(sound()), 0), fault.number);
@@ -273,7 +247,7 @@ mod tests {
         assert_eq!(number(&sound(), bytes_of(2) - 1), 23);
     }
 
-    /// Of too many records and two anchors the anchors are answered.
+    /// Two anchors come before too many records.
     #[test]
     fn anchors_come_before_too_many() {
         let mut script = Script::default();

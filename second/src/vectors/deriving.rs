@@ -1,19 +1,17 @@
 //! The asks for derived baselines and for the listing.
 
-use super::format::{changes, line, output_line, OUTPUT_BYTES};
+use super::format::{changes, line, output_line, value_line, OUTPUT_BYTES};
 use super::themes::themes;
 use super::{refused, Script};
 use crate::derived::derive;
 use crate::histories::History;
 use crate::listing::list;
 use crate::random::Random;
-use crate::record::RECORD_BYTES;
 use crate::refusal::Refusal;
-use crate::table::HEADER_BYTES;
 use crate::tables::Product;
 
 impl Product {
-    /// Answers the letter that asks for it.
+    /// Returns the letter that asks for it.
     pub fn letter(self) -> char {
         match self {
             Product::Derived => 'e',
@@ -21,7 +19,7 @@ impl Product {
         }
     }
 
-    /// Makes it of a table, into an output; answers the words of the answer.
+    /// Makes it from a table, into an output; returns the words of the answer.
     pub fn make(self, table: &[u8], output: &mut [u8]) -> String {
         match self {
             Product::Derived => derived(derive(table, output)),
@@ -30,12 +28,12 @@ impl Product {
     }
 }
 
-/// Answers the words of derived baselines.
+/// Returns the words of derived baselines.
 fn derived(count: Result<usize, Refusal>) -> String {
     count.map_or_else(refused, |count| format!("derived {count}"))
 }
 
-/// Answers the words of a listing, which is an error where it does not fit.
+/// Returns the words of a listing, whose length is an error if it does not fit.
 fn listed(length: Result<usize, usize>) -> String {
     length.map_or_else(
         |needed| format!("needs {needed}"),
@@ -43,16 +41,16 @@ fn listed(length: Result<usize, usize>) -> String {
     )
 }
 
-/// Answers how many bytes a table of so many records has.
-pub const fn bytes_of(records: usize) -> usize {
-    HEADER_BYTES + records * RECORD_BYTES
-}
-
 impl Script {
     /// Asks for something made of a table, into an output of these bytes.
     pub fn ask_product(&mut self, product: Product, table: &[u8], output: &[u8]) {
         let mut lines = self.set_table(table);
-        lines.extend(self.set_output(output));
+        lines.extend(value_line(
+            &self.made.output,
+            output,
+            OUTPUT_BYTES,
+            output_line,
+        ));
         let mut after = output.to_vec();
         let answer = product.make(table, &mut after);
         let answer = answer + &changes(output, &after);
@@ -60,7 +58,8 @@ impl Script {
         self.ask(lines, line(product.letter(), &[]), answer);
     }
 
-    /// Asks for it into what the last one left in so many bytes, or after a title into a new output.
+    /// Asks for it into the last output if that has this length, or into a new one, as after a
+    /// title.
     pub fn ask_next(&mut self, product: Product, table: &[u8], length: usize) {
         let is_new = std::mem::take(&mut self.is_begun) || self.made.output.len() != length;
         let output = match is_new {
@@ -70,7 +69,7 @@ impl Script {
         self.ask_product(product, table, &output);
     }
 
-    /// Asks for it of every history of the themes, into so many bytes.
+    /// Asks for it of every history of the themes, into this many bytes.
     pub fn ask_themes(&mut self, product: Product, length: usize) {
         for theme in themes() {
             self.title(theme.title);
@@ -80,28 +79,15 @@ impl Script {
         }
     }
 
-    /// Asks for it of so many random histories, each a little other than the last, into one of some
-    /// numbers of bytes.
+    /// Asks for it of this many random histories, each slightly different from the last, into an
+    /// output of one of some lengths.
     pub fn ask_histories(&mut self, product: Product, seed: u64, count: usize, lengths: &[usize]) {
         let mut random = Random::new(seed);
         let mut history = History::new(&mut random);
         for _ in 0..count {
-            if random.below(16) == 0 {
-                history = History::new(&mut random);
-            }
-            history.change(&mut random);
+            history.go_on(&mut random, 16);
             let length = random.pick(lengths);
             self.ask_next(product, &history.tables().permanent, length);
         }
-    }
-
-    /// Changes the output to one of one value; answers the line that does so, if one is needed.
-    fn set_output(&mut self, bytes: &[u8]) -> Option<String> {
-        if self.made.output == bytes {
-            return None;
-        }
-        let value = bytes.first().copied().unwrap_or(0);
-        assert!(bytes.len() <= OUTPUT_BYTES && bytes.iter().all(|byte| *byte == value));
-        Some(output_line(bytes.len(), value))
     }
 }

@@ -1,13 +1,13 @@
-//! The paper's fourteen examples, each slice brought to its table.
+//! The fourteen examples of the specification, each slice delivered to its table.
 
-use super::brief::{base, baseline, cancelling, change, closing, opening, passing};
-use super::sample::{self, nil, Case};
 use super::Script;
-use crate::record::{Side, NONE, RECORD_BYTES};
-use crate::table::HEADER_BYTES;
+use crate::fixtures::brief::{base, baseline, cancelling, change, closing, opening, passing};
+use crate::fixtures::{nil, Case};
+use crate::layout::bytes_of;
+use crate::record::NONE;
 use crate::tables::Tables;
 
-/// Slices in the order in which they come, and the instants that are asked about.
+/// Slices in the order of delivery, and the instants that are asked about.
 struct Example {
     slices: Vec<Case>,
     instants: Vec<u32>,
@@ -40,15 +40,10 @@ pub fn add(script: &mut Script) {
 
 /// Makes two tables without records, with room for four.
 fn empty() -> Tables {
-    let length = HEADER_BYTES + 4 * RECORD_BYTES;
-    let table = |side| sample::table(side, &[], length, 0);
-    Tables {
-        permanent: table(Side::Permanent),
-        temporary: table(Side::Temporary),
-    }
+    Tables::empty(bytes_of(4))
 }
 
-/// Answers a slice with nil, unknown in each property but the first; a cancelled one stays.
+/// Returns a slice with nil, unknown in each property but the first; a cancelled one stays.
 fn with_nils(slice: &Case) -> Case {
     if slice.head().is_cancelled() {
         return slice.clone();
@@ -58,7 +53,7 @@ fn with_nils(slice: &Case) -> Case {
     })
 }
 
-/// Answers the examples in their order.
+/// Returns the examples in their order.
 fn examples() -> Vec<Example> {
     let (first, second) = (passing(1, 120, 140, 5), passing(2, 130, 160, 6));
     let moved = passing(1, 200, 210, 5).with_correction(1);
@@ -99,7 +94,7 @@ mod tests {
     use super::*;
     use crate::question::property;
 
-    /// What the paper says of property 0 at each instant: a value, 0 for nil, or a refusal.
+    /// What the specification says of property 0 at each instant: a value, 0 for nil, or a refusal.
     #[test]
     fn examples_answer_as_the_paper_says() {
         let mut script = Script::default();

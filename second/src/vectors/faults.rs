@@ -1,7 +1,9 @@
 //! Slices with one fault, with two, and with every fault from a number on: the earlier number wins.
 
-use super::sample::{code, length, nil, part, unmentioned, Case, Time, FLAGS, KIND, PARTS, SPARE};
 use super::Script;
+use crate::fixtures::{
+    code, length, nil, part, unmentioned, Case, Time, FLAGS, KIND, PARTS, SPARE,
+};
 use crate::record::{Kind, NONE};
 
 /// A way to spoil a case, with the number it alone is refused for.
@@ -104,7 +106,7 @@ const OF_TEMPDELTA: [Fault; 5] = [
 ];
 
 impl Case {
-    /// Answers the case with some flag bits set.
+    /// Returns the case with some flag bits set.
     fn flagged(mut self, bits: u8) -> Case {
         self.slice[FLAGS] |= bits;
         self
@@ -119,7 +121,7 @@ pub fn add(script: &mut Script) {
     }
 }
 
-/// Answers every spoiled slice of every kind, with the number expected.
+/// Returns every spoiled slice of every kind, with the number expected.
 pub fn spoiled_cases() -> Vec<(Case, u8)> {
     spoilable()
         .iter()
@@ -127,7 +129,7 @@ pub fn spoiled_cases() -> Vec<(Case, u8)> {
         .collect()
 }
 
-/// Answers the sound slices, each with the faults it can have, by rising number.
+/// Returns the sound slices, each with the faults it can have, in the order of their numbers.
 fn spoilable() -> Vec<(Case, Vec<Fault>)> {
     let uncancelled = Kind::ALL
         .into_iter()
@@ -138,7 +140,7 @@ fn spoilable() -> Vec<(Case, Vec<Fault>)> {
     uncancelled.chain(cancelled).collect()
 }
 
-/// Answers the faults of an uncancelled slice of a kind, by rising number.
+/// Returns the faults of an uncancelled slice of a kind, in the order of their numbers.
 fn faults_of(kind: Kind) -> Vec<Fault> {
     let own = match kind {
         Kind::Baseline => &OF_BASELINE[..],
@@ -148,7 +150,7 @@ fn faults_of(kind: Kind) -> Vec<Fault> {
     [&OF_ALL[..], &OF_UNCANCELLED, own].concat()
 }
 
-/// Answers a slice spoiled by each fault, each pair and chains, with the number expected.
+/// Returns a slice spoiled by each fault, each pair and chains, with the number expected.
 fn spoiled(base: &Case, faults: &[Fault]) -> Vec<(Case, u8)> {
     let mut cases = vec![];
     for first in faults {
@@ -162,7 +164,7 @@ fn spoiled(base: &Case, faults: &[Fault]) -> Vec<(Case, u8)> {
     cases
 }
 
-/// Answers a slice with one fault of every number from the given one on, the later spoiled first.
+/// Returns a slice with one fault of every number from the given one on, the later spoiled first.
 fn chain(base: &Case, faults: &[Fault], from: u8) -> Option<(Case, u8)> {
     let mut chosen: Vec<Fault> = faults
         .iter()
@@ -181,15 +183,22 @@ fn chain(base: &Case, faults: &[Fault], from: u8) -> Option<(Case, u8)> {
 #[cfg(test)]
 mod tests {
     use super::*;
+    use crate::refusal::number_of;
+    use crate::slice::check;
+
+    /// Returns the number of the slice check, 0 if the slice is sound.
+    fn number(case: &Case) -> u8 {
+        number_of(check(&case.slice, &case.feature, case.side))
+    }
 
     /// Each fault has its number, and of two the earlier counts.
     #[test]
     fn the_earlier_number_wins() {
         for (base, faults) in spoilable() {
-            assert_eq!(base.number(), 0);
+            assert_eq!(number(&base), 0);
             assert!(faults.is_sorted_by_key(|fault| fault.number));
-            for (case, number) in spoiled(&base, &faults) {
-                assert_eq!(case.number(), number);
+            for (case, expected) in spoiled(&base, &faults) {
+                assert_eq!(number(&case), expected);
             }
         }
     }

@@ -1,11 +1,12 @@
 //! Whole deliveries, shuffled, with repeats and damaged slices among them, each to a new table.
 
-use super::sample::{code, Case, FEATURE};
 use super::Script;
+use crate::fixtures::{code, Case, FEATURE};
+use crate::layout::bytes_of;
 use crate::random::Random;
-use crate::record::{Kind, Side, RECORD_BYTES};
+use crate::record::{Kind, Side};
 use crate::supply::{damage, delivery, shuffle};
-use crate::table::{Sides, HEADER_BYTES};
+use crate::table::Sides;
 
 /// Adds every delivery.
 pub fn add(script: &mut Script) {
@@ -14,9 +15,9 @@ pub fn add(script: &mut Script) {
     full_deliveries(script);
 }
 
-/// Makes a new table with room for so many records and some bytes behind them.
+/// Makes a new table with room for this many records and some bytes after them.
 fn begin(script: &mut Script, side: Side, room: usize, fill: u8) {
-    let length = HEADER_BYTES + room * RECORD_BYTES + 17;
+    let length = bytes_of(room) + 17;
     script.ask_creation(&vec![fill; length], side.byte(), &FEATURE);
 }
 
@@ -66,7 +67,7 @@ fn full_deliveries(script: &mut Script) {
     }
 }
 
-/// Makes slices of so many keys that differ little, a higher correction or a damaged one of some.
+/// Makes slices of this many keys that differ little, a higher correction or a damaged one of some.
 fn alike(random: &mut Random, side: Side, count: u32) -> Vec<Vec<u8>> {
     let kind = match side {
         Side::Permanent => Kind::PermDelta,

@@ -1,12 +1,14 @@
-//! Arrivals at sound tables: every place, every answer, every correction and sequence that matters.
+//! Arrivals at sound tables: every position, every answer, every correction and sequence that
+//! matters.
 
-use super::sample::{cases, choices, code, table_of, Case, FEATURE, RECORD};
 use super::Script;
-use crate::record::{Kind, Side, RECORD_BYTES};
+use crate::fixtures::{cases, choices, code, length, table_of, Case, FEATURE, RECORD};
+use crate::layout::RECORD_BYTES;
+use crate::record::{Kind, Side};
 use crate::supply::{kinds, EDGES};
 use crate::table::Sides;
 
-/// Correction numbers at the ends and about each change of length.
+/// Correction numbers at both ends, and around each change of length.
 const CORRECTIONS: [u16; 9] = [0, 1, 2, 255, 256, 32_767, 32_768, 65_534, 65_535];
 
 /// The keys of a permanent table.
@@ -37,7 +39,8 @@ pub fn add(script: &mut Script) {
     slices_with_faults(script);
 }
 
-/// Adds, for tables of each count, with and without room, every answer for keys on and beside theirs.
+/// Adds, for tables of each count, with and without room, every answer for keys on and beside
+/// theirs.
 fn every_place(script: &mut Script) {
     script.title("arrival: every place, every answer");
     for keys in [&PERMANENT[..], &TEMPORARY] {
@@ -57,7 +60,7 @@ fn every_place(script: &mut Script) {
     }
 }
 
-/// Answers the cases with correction 2.
+/// Returns the cases with correction 2.
 fn corrected(cases: &[Case]) -> Vec<Case> {
     cases
         .iter()
@@ -65,7 +68,7 @@ fn corrected(cases: &[Case]) -> Vec<Case> {
         .collect()
 }
 
-/// Answers a case before each key and after it.
+/// Returns a case before each key and after it.
 fn beside(keys: &[(Kind, u32)]) -> impl Iterator<Item = Case> + '_ {
     keys.iter().flat_map(|&(kind, sequence)| {
         [sequence - 1, sequence + 1].map(|sequence| Case::usual(kind).with_sequence(sequence))
@@ -171,11 +174,11 @@ fn cancelled_and_back(script: &mut Script) {
     }
 }
 
-/// Adds the two zeros of a double: they are other bytes, and so clash.
+/// Adds the two zeros of a double: their bytes differ, so they clash.
 fn zeros(script: &mut Script) {
     script.title("arrival: the two zeros clash");
-    let zero = super::sample::length(0, 1);
-    let minus = super::sample::length(1 << 63, 1);
+    let zero = length(0, 1);
+    let minus = length(1 << 63, 1);
     for kind in Kind::ALL {
         let [plus, minus] = [zero, minus].map(|part| Case::any(kind).with_part(4, &part));
         for (stored, case) in [(&plus, &minus), (&minus, &plus), (&minus, &minus)] {

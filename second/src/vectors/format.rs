@@ -20,17 +20,17 @@ pub const OUTPUT_BYTES: usize = 65_536;
 /// The line that exchanges the table with the other one.
 pub const EXCHANGE: &str = "x";
 
-/// Answers the pairs of hex digits of some bytes.
+/// Returns the pairs of hex digits of some bytes.
 pub fn digits(bytes: &[u8]) -> String {
     bytes.iter().map(|byte| format!("{byte:02x}")).collect()
 }
 
-/// Answers the line of a command letter and its bytes.
+/// Returns the line with a command letter and its bytes.
 pub fn line(letter: char, bytes: &[u8]) -> String {
     format!("{letter}{}", digits(bytes))
 }
 
-/// Answers the shortest line that makes one buffer another, if they differ.
+/// Returns the shortest line that turns one buffer into another, if they differ.
 pub fn buffer_line(old: &[u8], new: &[u8]) -> Option<String> {
     if old == new {
         return None;
@@ -40,7 +40,7 @@ pub fn buffer_line(old: &[u8], new: &[u8]) -> Option<String> {
     Some(patch.unwrap_or(whole))
 }
 
-/// Answers the line that sets each byte in which two buffers differ, where that can be written.
+/// Returns the line that sets each byte in which two buffers differ, if the format allows it.
 fn patch_line(old: &[u8], new: &[u8]) -> Option<String> {
     if old.len() != new.len() {
         return None;
@@ -54,7 +54,7 @@ fn patch_line(old: &[u8], new: &[u8]) -> Option<String> {
     Some(line('p', &pairs.collect::<Option<Vec<_>>>()?.concat()))
 }
 
-/// Answers the runs in which two places of one length differ, joined over so many equal bytes.
+/// Returns the runs in which two buffers of one length differ, joined over this many equal bytes.
 fn runs(old: &[u8], new: &[u8], joined: usize) -> Vec<Range<usize>> {
     let mut runs: Vec<Range<usize>> = vec![];
     for offset in (0..new.len()).filter(|&offset| old[offset] != new[offset]) {
@@ -66,7 +66,7 @@ fn runs(old: &[u8], new: &[u8], joined: usize) -> Vec<Range<usize>> {
     runs
 }
 
-/// Answers what a call changed: each run of changed bytes, with its offset.
+/// Returns what a call changed: each run of changed bytes, with its offset.
 pub fn changes(old: &[u8], new: &[u8]) -> String {
     runs(old, new, 0)
         .into_iter()
@@ -74,13 +74,13 @@ pub fn changes(old: &[u8], new: &[u8]) -> String {
         .collect()
 }
 
-/// Answers a number below 2^24 as three bytes.
+/// Returns a number below 2^24 as three bytes.
 fn three(number: usize) -> [u8; 3] {
     let [.., a, b, c] = number.to_be_bytes();
     [a, b, c]
 }
 
-/// Answers the lines that make one table another of its length.
+/// Returns the lines that turn one table into another of the same length.
 fn write_lines(old: &[u8], new: &[u8]) -> Vec<String> {
     runs(old, new, 3)
         .into_iter()
@@ -88,36 +88,53 @@ fn write_lines(old: &[u8], new: &[u8]) -> Vec<String> {
         .collect()
 }
 
-/// Answers the lines that make a table out of nothing, filled with a byte first.
+/// Returns the lines that make a table from nothing, filled with a byte first.
 pub fn fill_lines(new: &[u8], fill: u8) -> Vec<String> {
     let [a, b, c] = three(new.len());
     let filled = vec![fill; new.len()];
     [vec![line('t', &[a, b, c, fill])], write_lines(&filled, new)].concat()
 }
 
-/// Answers the line that makes a record of one value.
+/// Returns the line that makes a record of one value.
 pub fn record_line(length: usize, value: u8) -> String {
     let [_, a, b] = three(length);
     line('l', &[a, b, value])
 }
 
-/// Answers the line that makes an output of one value.
+/// Returns the line that makes an output of one value.
 pub fn output_line(length: usize, value: u8) -> String {
     let [a, b, c] = three(length);
     line('o', &[a, b, c, value])
 }
 
-/// Answers the line that names an instant.
+/// Returns the line that turns bytes into others of one value, if they differ; there must be at
+/// most this many.
+pub fn value_line(
+    old: &[u8],
+    new: &[u8],
+    most: usize,
+    line: fn(usize, u8) -> String,
+) -> Option<String> {
+    if old == new {
+        return None;
+    }
+    let value = new.first().copied().unwrap_or(0);
+    assert!(new.len() <= most && new.iter().all(|byte| *byte == value));
+    Some(line(new.len(), value))
+}
+
+/// Returns the line that names an instant.
 pub fn instant_line(instant: u32) -> String {
     line('i', &instant.to_be_bytes())
 }
 
-/// Answers how many bytes lines have.
+/// Returns how many bytes some lines have.
 fn size(lines: &[String]) -> usize {
     lines.iter().map(|line| line.len() + 1).sum()
 }
 
-/// Answers the shortest lines that make a table another; the table before the last ask is at hand.
+/// Returns the shortest lines that turn a table into another; they may use the table before the
+/// last ask.
 pub fn table_lines(table: &[u8], before: &[u8], new: &[u8]) -> Vec<String> {
     let mut ways = vec![];
     if table.len() == new.len() {
@@ -135,7 +152,8 @@ pub fn table_lines(table: &[u8], before: &[u8], new: &[u8]) -> Vec<String> {
         .expect("there is always a way")
 }
 
-/// Answers the shortest lines that make a table another, where the other one may be taken for it.
+/// Returns the shortest lines that turn a table into another; they may also exchange it with the
+/// other one.
 pub fn either_lines(table: &[u8], other: &[u8], before: &[u8], new: &[u8]) -> Vec<String> {
     let stay = table_lines(table, before, new);
     if other.is_empty() || other.len() != new.len() {
@@ -153,7 +171,7 @@ pub fn either_lines(table: &[u8], other: &[u8], before: &[u8], new: &[u8]) -> Ve
 mod tests {
     use super::*;
 
-    /// The shorter of the two lines, none where nothing changed.
+    /// The shorter of the two lines, or none if nothing changed.
     #[test]
     fn lines_are_written_as_the_format_says() {
         assert_eq!(buffer_line(&[1, 2], &[1, 2]), None);
@@ -166,7 +184,7 @@ mod tests {
         assert!(buffer_line(&[0; 300], &far).unwrap().starts_with('b'));
     }
 
-    /// Nothing where nothing changed, a part written, the table before, or a new one.
+    /// Nothing if nothing changed; a part, the table before, or a new one.
     #[test]
     fn tables_are_changed_by_the_shortest_lines() {
         let nothing: [&str; 0] = [];
@@ -183,7 +201,7 @@ mod tests {
         assert_eq!(table_lines(&[7; 9], &[1], &[]), ["t00000000"]);
     }
 
-    /// The other table is taken where that is shorter, and there is one.
+    /// The other table is used if that is shorter, and there is one.
     #[test]
     fn tables_are_exchanged_where_that_is_shorter() {
         let (zeros, mut new) = ([0; 300], [7; 300]);
@@ -208,7 +226,7 @@ mod tests {
         assert_eq!(instant_line(258), "i00000102");
     }
 
-    /// Runs end where a byte stayed.
+    /// A run ends where a byte did not change.
     #[test]
     fn changes_are_told_run_by_run() {
         assert_eq!(changes(&[1, 2, 3], &[1, 2, 3]), "");

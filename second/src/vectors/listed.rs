@@ -1,12 +1,12 @@
 //! Asks for listings: by theme, with faults, and into outputs of every length that matters.
 
-use super::derived::{apart, touching};
-use super::deriving::bytes_of;
 use super::rules;
 use super::themes::paper;
 use super::Script;
+use crate::fixtures::rows::about_full;
+use crate::layout::bytes_of;
 use crate::listing::listing;
-use crate::tables::{Product, Tables};
+use crate::tables::{permanent, Product};
 
 /// The output of most asks, long enough for the lines of any small table.
 const LENGTH: usize = 800;
@@ -24,7 +24,7 @@ pub fn add(script: &mut Script) {
     script.ask_histories(Product::Listing, 23, HISTORIES, &[LENGTH]);
 }
 
-/// Asks for the listing of a table, into what the last ask left.
+/// Asks for the listing of a table, into the last output.
 fn ask(script: &mut Script, table: &[u8]) {
     script.ask_next(Product::Listing, table, LENGTH);
 }
@@ -50,8 +50,8 @@ fn faults(script: &mut Script) {
 /// Adds outputs of every length up to a little more than the text, for some tables.
 fn lengths(script: &mut Script) {
     script.title("listing: outputs too short, exact and longer");
-    let example = Tables::of(&paper()).permanent;
-    let empty = Tables::of(&[]).permanent;
+    let example = permanent(&paper());
+    let empty = permanent(&[]);
     for table in [example, empty, vec![]] {
         for length in 0..listing(&table).len() + 3 {
             ask_into(script, &table, length, b'?');
@@ -59,22 +59,18 @@ fn lengths(script: &mut Script) {
     }
 }
 
-/// Adds listings of 255 and 256 records, and of one too many; and a table longer than the program takes.
+/// Adds listings of 255 and 256 records, and of one too many; and a table longer than the program
+/// takes.
 fn many(script: &mut Script) {
     script.title("listing: 255, 256 and 257 records");
-    for table in [
-        apart(255),
-        apart(256),
-        apart(257),
-        apart(511),
-        touching(256),
-    ] {
+    for cases in about_full() {
+        let table = permanent(&cases);
         let text = listing(&table).len();
         for length in [text - 1, text, text + 1] {
             ask_into(script, &table, length, b'\n');
         }
     }
-    let mut table = Tables::of(&paper()).permanent;
+    let mut table = permanent(&paper());
     for length in [bytes_of(256), bytes_of(256) + 1, 65_536] {
         table.resize(length, 0xff);
         ask(script, &table);

@@ -1,8 +1,8 @@
 //! Life times that are given, moved and withdrawn, before, at and after the instant.
 
-use super::brief::{baseline, change, closing, opening, passing};
-use super::sample::{Case, Time};
 use super::Script;
+use crate::fixtures::brief::{baseline, change, closing, opening, passing};
+use crate::fixtures::{code, Case, Time};
 use crate::record::NONE;
 
 /// Adds every history about lives.
@@ -60,7 +60,7 @@ fn withdrawn(script: &mut Script) {
         .concat();
         script.ask_history(&over, &[0]);
     }
-    let mention = closing(1, 150).with_part(0, &super::sample::code(9));
+    let mention = closing(1, 150).with_part(0, &code(9));
     script.ask_history(&[anchor.clone(), mention.clone()], &[0]);
     script.ask_history(&[anchor, mention, change(2, 160, 3), closing(3, 170)], &[0]);
 }
@@ -74,7 +74,7 @@ fn openings(script: &mut Script) {
     for end in &ends {
         script.ask_history(&[opened.clone(), end.clone()], &[0]);
         let with_begin = end.clone().with_sequence(7).with_time(Time::LifeEnd, NONE);
-        let with_begin = with_begin.with_part(0, &super::sample::code(4));
+        let with_begin = with_begin.with_part(0, &code(4));
         script.ask_history(&[opened.clone(), end.clone(), with_begin], &[0]);
     }
     script.ask_history(&[&[opened], &ends[..3]].concat(), &[0]);

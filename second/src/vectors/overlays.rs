@@ -1,8 +1,9 @@
-//! One mention over another: nil and values, permanent and temporary, one after the other and at once.
+//! One mention over another: nil and values, permanent and temporary, one after the other and at
+//! once.
 
-use super::brief::{base, baseline, change, opening, passing, SEQUENCES};
-use super::sample::{code, mentions, nil, sound_parts, Case};
 use super::Script;
+use crate::fixtures::brief::{base, baseline, change, mention_only, opening, passing, SEQUENCES};
+use crate::fixtures::{self, code, mentions, nil, sound_parts, Case};
 use crate::record::NONE;
 use crate::tables::Tables;
 
@@ -84,7 +85,7 @@ fn overlapping(script: &mut Script) {
     }
 }
 
-/// Adds periods that begin and end beside each other and beside those of the permanent table.
+/// Adds periods that begin and end next to each other and next to those of the permanent table.
 fn edges(script: &mut Script) {
     script.title("mentions: periods beside each other");
     let anchor = baseline(1, [100, 200, 100, NONE], 1);
@@ -113,19 +114,13 @@ fn every_property(script: &mut Script) {
             let (one, other) = (change(1, 150, 2), passing(1, 150, 160, 3));
             let cases = [
                 base().with_parts(&mentions()),
-                mention_only(one, lasting, 100 + u16::from(lasting)),
-                mention_only(other, temporary, 200 + u16::from(temporary)),
+                mention_only(one, lasting.into(), 100 + u16::from(lasting)),
+                mention_only(other, temporary.into(), 200 + u16::from(temporary)),
             ];
             let other = (lasting + 1) % 8;
             script.ask_at(&Tables::of(&cases), &[155], &[lasting, temporary, other]);
         }
     }
-}
-
-/// Answers a delta that mentions one property alone.
-fn mention_only(case: Case, property: u8, value: u16) -> Case {
-    case.with_part(0, &super::sample::unmentioned())
-        .with_part(property.into(), &code(value))
 }
 
 /// Adds many records of which each mentions other properties, the last of each in another record.
@@ -158,11 +153,11 @@ fn unmentioned(script: &mut Script) {
         &ALL,
     );
     for property in ALL {
-        let lasting = mention_only(change(2, 110, 0), property, 4);
-        let passing = mention_only(passing(1, 105, 115, 0), (property + 1) % 8, 5);
+        let lasting = mention_only(change(2, 110, 0), property.into(), 4);
+        let passing = mention_only(passing(1, 105, 115, 0), usize::from(property + 1) % 8, 5);
         let tables = Tables::of(&[opened.clone(), lasting, passing]);
         script.ask_at(&tables, &[100, 105, 110], &ALL);
     }
-    let silent = opened.with_part(0, &super::sample::unmentioned());
+    let silent = opened.with_part(0, &fixtures::unmentioned());
     script.ask_at(&Tables::of(&[silent]), &[100], &ALL);
 }

@@ -1,9 +1,10 @@
 //! Asks about one property part.
 
-use super::sample::{
+use super::Script;
+use crate::fixtures::doubles::{border_doubles, edge_coordinates};
+use crate::fixtures::{
     broken_parts, code, length, mentions, nil, number, part, point, sound_parts, unmentioned, Part,
 };
-use super::Script;
 use crate::random::Random;
 
 /// Adds every ask about one part.
@@ -30,21 +31,25 @@ fn samples(script: &mut Script) {
         .for_each(|part| script.ask_part(part));
 }
 
-/// Answers one sound part of each form, with content in it where the form has any.
+/// Returns one sound part of each form, with content in it where the form has any.
 fn each_form() -> [Part; 6] {
     let [code, nil, number, length, point, ..] = mentions();
     [unmentioned(), nil, code, number, length, point]
+}
+
+/// Adds a part with every value of one of its bytes.
+fn every_value(script: &mut Script, mut part: Part, offset: usize) {
+    for value in 0..=255 {
+        part[offset] = value;
+        script.ask_part(&part);
+    }
 }
 
 /// Adds every form byte, with no detail and with one, and over the content of each form.
 fn forms(script: &mut Script) {
     script.title("property: every form byte");
     for base in [part(0, 1, &[])].into_iter().chain(each_form()) {
-        for form in 0..=255 {
-            let mut part = base;
-            part[0] = form;
-            script.ask_part(&part);
-        }
+        every_value(script, base, 0);
     }
 }
 
@@ -52,15 +57,11 @@ fn forms(script: &mut Script) {
 fn details(script: &mut Script) {
     script.title("property: every detail byte of each form");
     for base in each_form() {
-        for detail in 0..=255 {
-            let mut part = base;
-            part[1] = detail;
-            script.ask_part(&part);
-        }
+        every_value(script, base, 1);
     }
 }
 
-/// Adds each byte of a part of each form set to some values, and with some bits turned over.
+/// Adds each byte of a part of each form set to some values, and with some bits flipped.
 fn disturbed_bytes(script: &mut Script) {
     script.title("property: each byte disturbed");
     for base in each_form() {
@@ -99,39 +100,6 @@ fn codes_and_numbers(script: &mut Script) {
         .for_each(|value| script.ask_part(&number(value)));
 }
 
-/// Answers the bits of doubles at every border: zeros, subnormals, the largest, infinities, NaNs.
-fn border_doubles() -> Vec<u64> {
-    let (fraction, exponent) = ((1u64 << 52) - 1, 0x7ffu64 << 52);
-    let mut bits = vec![
-        0,
-        1,
-        2,
-        1 << 51,
-        fraction - 1,
-        fraction,
-        fraction + 1,
-        1 << 52 | 1,
-    ];
-    bits.extend([1f64, 1.5, 2.0, 89.5, 100.0, 1e300, 1e-300, f64::MAX].map(f64::to_bits));
-    bits.extend([exponent - 1, exponent, exponent | 1, exponent | 2]);
-    bits.extend([
-        exponent | (fraction >> 1),
-        exponent | 1 << 51,
-        exponent | 1 << 51 | 1,
-    ]);
-    bits.extend([
-        exponent | fraction,
-        exponent | (fraction - 1),
-        exponent | 0x5_5555_5555_5555,
-    ]);
-    bits.extend((0..52).map(|bit| exponent | 1 << bit));
-    let almost = (0..11).map(|bit| exponent & !(1 << (52 + bit)));
-    bits.extend(almost.flat_map(|almost| [almost, almost | 1, almost | fraction]));
-    bits.iter()
-        .flat_map(|&bits| [bits, bits | 1 << 63])
-        .collect()
-}
-
 /// Adds the border doubles as a length in two units, as a latitude and as a longitude.
 fn doubles(script: &mut Script) {
     script.title("property: border doubles");
@@ -147,39 +115,6 @@ fn doubles(script: &mut Script) {
     borders
         .iter()
         .for_each(|&bits| script.ask_part(&point(7f64.to_bits(), bits)));
-}
-
-/// Answers the bits of the doubles at and next to the ends of both ranges, on both signs.
-fn edge_coordinates() -> Vec<u64> {
-    let near = |limit: f64| {
-        let bits = limit.to_bits();
-        [
-            bits - 1,
-            bits,
-            bits + 1,
-            bits - (1 << 32),
-            bits + (1 << 32),
-            bits + (1 << 47),
-        ]
-    };
-    let limits = [near(90.0), near(180.0)].concat();
-    let within = [0f64, 45.25, 135.5, 360.0].map(f64::to_bits);
-    limits
-        .into_iter()
-        .chain(within)
-        .flat_map(|bits| [bits, bits | 1 << 63])
-        .collect()
-}
-
-/// Makes a part with a double at a border or at the end of a range, sound or not.
-#[cfg(any(test, feature = "linked"))]
-pub fn edge_part(random: &mut Random) -> Part {
-    let (borders, edges) = (border_doubles(), edge_coordinates());
-    match random.below(3) {
-        0 => length(random.pick(&borders), 1 + random.below(4) as u8),
-        1 => point(random.pick(&borders), random.pick(&edges)),
-        _ => point(random.pick(&edges), random.pick(&edges)),
-    }
 }
 
 /// Adds every pair of edge coordinates.
@@ -241,7 +176,7 @@ fn random_contents(script: &mut Script) {
     }
 }
 
-/// Adds sound parts with one to three bits turned over.
+/// Adds sound parts with one to three bits flipped.
 fn flipped_parts(script: &mut Script) {
     script.title("property: sound parts with bits turned over");
     let mut random = Random::new(3);

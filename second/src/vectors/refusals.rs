@@ -1,9 +1,10 @@
-//! Questions with one fault, and with two: the earlier one is answered.
+//! Questions with one fault and with two: the answer is the earlier one.
 
 use super::rules::{self, at, set};
-use super::sample::{Case, Time};
 use super::Script;
-use crate::record::{Kind, NONE, RECORD_BYTES};
+use crate::fixtures::{Case, Time};
+use crate::layout::RECORD_BYTES;
+use crate::record::{Kind, NONE};
 use crate::tables::{Question, Tables};
 
 /// A question's tables, instant, record and property number.
@@ -34,7 +35,7 @@ struct Fault {
     spoil: fn(Asking) -> Asking,
 }
 
-/// Faults that lie in no table by itself, by rising stage.
+/// Faults that are in no table by itself, in the order of their stages.
 const FAULTS: [Fault; 10] = [
     fault(Stage::Feature, |asking| asking.with_other_feature(8)),
     fault(Stage::Feature, |asking| asking.with_other_feature(23)),
@@ -68,28 +69,28 @@ impl Asking {
         }
     }
 
-    /// Answers the asking at another instant.
+    /// Returns the asking at another instant.
     fn at(self, instant: u32) -> Asking {
         Asking { instant, ..self }
     }
 
-    /// Answers the asking about another property.
+    /// Returns the asking about another property.
     fn about(self, property: u8) -> Asking {
         Asking { property, ..self }
     }
 
-    /// Answers the asking with a record of another length.
+    /// Returns the asking with a record of another length.
     fn into(self, length: usize) -> Asking {
         Asking { length, ..self }
     }
 
-    /// Answers the asking with a byte of the temporary table's feature changed.
+    /// Returns the asking with a byte of the temporary table's feature changed.
     fn with_other_feature(mut self, place: usize) -> Asking {
         self.tables.temporary[place] ^= 1;
         self
     }
 
-    /// Answers the three questions that it puts.
+    /// Returns its three questions.
     fn questions(&self) -> [Question; 3] {
         [
             Question::State,
@@ -98,7 +99,7 @@ impl Asking {
         ]
     }
 
-    /// Adds its three questions, into what the last one left where that has the length.
+    /// Adds its three questions, into the last record if that has the length.
     fn add(&self, script: &mut Script) {
         for question in self.questions() {
             let record = match self.length {
@@ -110,14 +111,13 @@ impl Asking {
     }
 }
 
-/// Answers the asking with the second record a BASELINE as well, and the third counted still.
+/// Returns the asking with the second record a BASELINE as well, and the third counted still.
 fn two_anchors(mut asking: Asking) -> Asking {
-    let other = Case::usual(Kind::Baseline).with_sequence(8);
-    asking.tables.permanent = set(asking.tables.permanent, at(1), &other.record());
+    asking.tables.permanent = rules::with_two_anchors(asking.tables.permanent);
     asking
 }
 
-/// Answers the asking with a life end in the third record.
+/// Returns the asking with a life end in the third record.
 fn withdrawn(mut asking: Asking) -> Asking {
     let closing = Case::usual(Kind::PermDelta)
         .with_sequence(4)
@@ -136,7 +136,7 @@ pub fn add(script: &mut Script) {
     properties(script);
 }
 
-/// Answers sound and spoiled askings, each with the stages of its one fault or two.
+/// Returns sound and spoiled askings, each with the stages of its one fault or two.
 fn spoiled() -> Vec<(Asking, Vec<Stage>)> {
     let sound = Asking::sound();
     let mut askings = vec![(sound.clone(), vec![])];
@@ -160,7 +160,7 @@ enum Way {
 }
 
 impl Way {
-    /// Answers the stage at which it is refused.
+    /// Returns the stage at which it is refused.
     fn stage(&self) -> Stage {
         match self {
             Way::Permanent(fault) => Stage::Permanent(fault.number),
@@ -169,7 +169,7 @@ impl Way {
         }
     }
 
-    /// Answers a spoiled asking.
+    /// Returns a spoiled asking.
     fn spoil(&self, mut asking: Asking) -> Asking {
         match self {
             Way::Permanent(fault) => {
@@ -185,7 +185,7 @@ impl Way {
     }
 }
 
-/// Answers one fault of each number of each table, and the others, by rising stage.
+/// Returns one fault of each number of each table, and the others, in the order of their stages.
 fn singly() -> Vec<Way> {
     let mut first = rules::FAULTS.to_vec();
     first.dedup_by_key(|fault| fault.number);
@@ -276,7 +276,7 @@ mod tests {
     use crate::refusal::number_of;
 
     impl Stage {
-        /// Answers the paper's number.
+        /// Returns its number in the specification.
         fn number(self) -> u8 {
             match self {
                 Stage::Permanent(number) | Stage::Temporary(number) | Stage::State(number) => {
@@ -288,7 +288,7 @@ mod tests {
             }
         }
 
-        /// Answers whether a question looks at what is wrong.
+        /// Returns whether a question looks at what is wrong.
         fn concerns(self, question: Question) -> bool {
             match self {
                 Stage::Permanent(_) | Stage::Instant | Stage::State(_) => true,

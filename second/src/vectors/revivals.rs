@@ -1,10 +1,10 @@
-//! Records that are cancelled, come back and move, each correction brought to its table.
+//! Records that are cancelled, come back and move, each correction delivered to its table.
 
-use super::brief::{base, baseline, cancelling, change, closing, opening, passing};
-use super::sample::{self, Case};
 use super::Script;
-use crate::record::{Side, NONE, RECORD_BYTES};
-use crate::table::HEADER_BYTES;
+use crate::fixtures::brief::{base, baseline, cancelling, change, closing, opening, passing};
+use crate::fixtures::Case;
+use crate::layout::bytes_of;
+use crate::record::NONE;
 use crate::tables::Tables;
 
 /// The instants that are asked about after each arrival.
@@ -36,20 +36,16 @@ pub fn add(script: &mut Script) {
 /// Makes two tables with room for eight records, which hold these.
 fn roomy(cases: &[Case]) -> Tables {
     let mut tables = Tables::of(cases);
-    let length = HEADER_BYTES + 8 * RECORD_BYTES;
+    let length = bytes_of(8);
     tables.permanent.resize(length, 0);
     tables.temporary.resize(length, 0);
     tables
 }
 
-/// Adds a record brought, cancelled, late, revived elsewhere and cancelled again, with a BASELINE or
-/// without.
+/// Adds a record brought, cancelled, late, revived elsewhere and cancelled again, with a BASELINE
+/// or without.
 fn alone(script: &mut Script, case: &Case, other: &Case) {
-    let empty = |side| sample::table(side, &[], HEADER_BYTES + 8 * RECORD_BYTES, 0);
-    let mut tables = Tables {
-        permanent: empty(Side::Permanent),
-        temporary: empty(Side::Temporary),
-    };
+    let mut tables = Tables::empty(bytes_of(8));
     if case.head().kind != 1 {
         script.bring(&mut tables, &baseline(9, [100, 200, 100, NONE], 99));
     }
@@ -59,7 +55,7 @@ fn alone(script: &mut Script, case: &Case, other: &Case) {
     }
 }
 
-/// Answers the slices of a record that goes and comes back.
+/// Returns the slices of a record that goes and comes back.
 fn life_of(case: &Case, other: &Case) -> [Case; 6] {
     [
         case.clone(),

@@ -1,9 +1,10 @@
 //! Tables of every room that matters, with counts at, over and far over it.
 
-use super::sample::{cases, table_of, Case};
 use super::Script;
-use crate::record::{Kind, RECORD_BYTES};
-use crate::table::{Sides, HEADER_BYTES};
+use crate::fixtures::{cases, table_of, Case};
+use crate::layout::{bytes_of, HEADER_BYTES, RECORD_BYTES};
+use crate::record::Kind;
+use crate::table::Sides;
 
 /// Adds every ask about rooms.
 pub fn add(script: &mut Script) {
@@ -20,7 +21,7 @@ fn even(count: usize) -> Vec<Case> {
     cases(&keys)
 }
 
-/// Makes a table of a length, full of sound records, that counts so many.
+/// Makes a table of a length, full of sound records, that counts this many.
 fn table(length: usize, count: u16) -> Vec<u8> {
     let fits = (length - HEADER_BYTES) / RECORD_BYTES;
     let rest = (length - HEADER_BYTES) % RECORD_BYTES;
@@ -39,7 +40,7 @@ fn ask(script: &mut Script, table: &[u8], sequences: &[u32]) {
     }
 }
 
-/// Adds rooms of 0 to 3 with parts of a record behind them, and counts from 0 to far over.
+/// Adds rooms of 0 to 3 with parts of a record after them, and counts from 0 to far over.
 fn small_rooms(script: &mut Script) {
     script.title("room: 0 to 3, with a rest");
     for room in 0..=3 {
@@ -47,14 +48,14 @@ fn small_rooms(script: &mut Script) {
             for count in [
                 0, 1, 2, 3, 4, 5, 255, 256, 257, 258, 259, 512, 65_280, 65_535,
             ] {
-                let length = HEADER_BYTES + room * RECORD_BYTES + rest;
+                let length = bytes_of(room) + rest;
                 ask(script, &table(length, count), &[2, 5, 9]);
             }
         }
     }
 }
 
-/// Adds rooms of 255 and 256 and places of more bytes than that, with counts about each.
+/// Adds rooms of 255 and 256 and longer buffers, with counts around each.
 fn large_rooms(script: &mut Script) {
     script.title("room: 255, 256, and more bytes");
     for (records, rest) in [
@@ -65,7 +66,7 @@ fn large_rooms(script: &mut Script) {
         (257, 0),
         (292, 96),
     ] {
-        let length = HEADER_BYTES + records * RECORD_BYTES + rest;
+        let length = bytes_of(records) + rest;
         for count in [256, 255, 254, 257, 258, 292, 293, 511, 512, 65_535, 0, 1] {
             ask(script, &table(length, count), &[2, 512, 514]);
         }
@@ -75,7 +76,7 @@ fn large_rooms(script: &mut Script) {
 /// Adds a new slice before, between and after 255 records, and to full tables.
 fn front_middle_last(script: &mut Script) {
     script.title("room: first, middle and last of many");
-    let length = HEADER_BYTES + 256 * RECORD_BYTES;
+    let length = bytes_of(256);
     for count in [255, 256, 128] {
         ask(
             script,

@@ -1,12 +1,12 @@
 //! Tables that break one of the rules 1 to 7, two of them, and every one from a number on.
 
-use super::sample::{cases, nil, table_of, unmentioned, Case, RECORD};
 use super::Script;
-use crate::property::PROPERTIES;
+use crate::fixtures::{cases, nil, table_of, unmentioned, Case, RECORD};
+use crate::layout::{bytes_of, HEADER_BYTES, PROPERTIES, RECORD_BYTES};
 use crate::random::Random;
-use crate::record::{Kind, Side, NONE, RECORD_BYTES};
+use crate::record::{Kind, Side, NONE};
 use crate::supply;
-use crate::table::{Sides, HEADER_BYTES};
+use crate::table::Sides;
 
 /// The three sets of sides that a check takes.
 const SIDES: [Sides; 3] = [Sides::Permanent, Sides::Temporary, Sides::Both];
@@ -23,7 +23,7 @@ const fn fault(number: u8, spoil: fn(Vec<u8>) -> Vec<u8>) -> Fault {
     Fault { number, spoil }
 }
 
-/// Faults of a table of three records with room for four, by rising number.
+/// Faults of a table of three records with room for four, in the order of their numbers.
 pub const FAULTS: [Fault; 34] = [
     fault(1, |table| table[..0].to_vec()),
     fault(1, |table| table[..31].to_vec()),
@@ -61,31 +61,31 @@ pub const FAULTS: [Fault; 34] = [
     fault(7, again),
 ];
 
-/// Answers where a record begins in a table.
+/// Returns where a record begins in a table.
 pub fn at(index: usize) -> usize {
-    HEADER_BYTES + index * RECORD_BYTES
+    bytes_of(index)
 }
 
-/// Answers the table with some bytes set.
+/// Returns the table with some bytes set.
 pub fn set(mut table: Vec<u8>, offset: usize, bytes: &[u8]) -> Vec<u8> {
     table[offset..offset + bytes.len()].copy_from_slice(bytes);
     table
 }
 
-/// Answers the table with two records swapped.
+/// Returns the table with two records swapped.
 fn swap(mut table: Vec<u8>, one: usize, other: usize) -> Vec<u8> {
     let (records, _) = table[HEADER_BYTES..].as_chunks_mut::<RECORD_BYTES>();
     records.swap(one, other);
     table
 }
 
-/// Answers the table with its second record where the third was, under another correction.
+/// Returns the table with its second record where the third was, under another correction.
 fn again(table: Vec<u8>) -> Vec<u8> {
     let second = table[at(1)..at(2)].to_vec();
     set(set(table, at(2), &second), at(2) + 2, &[1])
 }
 
-/// Answers the table with a last record of the other side.
+/// Returns the table with a last record of the other side.
 fn other_side(table: Vec<u8>) -> Vec<u8> {
     let kind = if table[3] == 0 { 3 } else { 2 };
     set(table, at(2), &[kind])
@@ -100,6 +100,12 @@ pub fn bases() -> [Vec<u8>; 2] {
     ];
     let other = [3, 4, 70_001].map(|sequence| (Kind::TempDelta, sequence));
     [keys, other].map(|keys| table_of(&cases(&keys), RECORD_BYTES + 10, 0xee))
+}
+
+/// Returns the table with a second BASELINE where its second record was.
+pub fn with_two_anchors(table: Vec<u8>) -> Vec<u8> {
+    let other = Case::usual(Kind::Baseline).with_sequence(8);
+    set(table, at(1), &other.record())
 }
 
 /// Adds every ask about the rules of a table.
@@ -119,7 +125,8 @@ pub fn add(script: &mut Script) {
     random_faults(script);
 }
 
-/// Asks for the check of a table with each set of sides, and for two arrivals, one of another feature.
+/// Asks for the check of a table with each set of sides, and for two arrivals, one of another
+/// feature.
 fn ask_each_way(script: &mut Script, table: &[u8]) {
     for sides in SIDES {
         script.ask_table(table, sides);
@@ -129,7 +136,7 @@ fn ask_each_way(script: &mut Script, table: &[u8]) {
     script.ask_arrival(table, &case.disturbed(0, 1).slice);
 }
 
-/// Answers the table spoiled by each fault, each pair and chains, with the number expected.
+/// Returns the table spoiled by each fault, each pair and chains, with the number expected.
 pub fn spoiled(base: &[u8]) -> Vec<(Vec<u8>, u8)> {
     let mut tables = vec![(base.to_vec(), 0)];
     for first in FAULTS {
@@ -145,13 +152,13 @@ pub fn spoiled(base: &[u8]) -> Vec<(Vec<u8>, u8)> {
     tables
 }
 
-/// Answers a spoiled table with an earlier fault as well, where its bytes are still there.
+/// Returns a spoiled table with an earlier fault as well, where its bytes are still there.
 fn spoiled_too(table: Vec<u8>, fault: Fault) -> Option<Vec<u8>> {
     let is_whole = table.len() > at(4);
     (is_whole || fault.number <= 4).then(|| (fault.spoil)(table))
 }
 
-/// Answers a table with a fault of every number from the given one on, the later spoiled first.
+/// Returns a table with a fault of every number from the given one on, the later spoiled first.
 fn chain(base: &[u8], from: u8) -> Vec<u8> {
     let mut chosen: Vec<Fault> = FAULTS.to_vec();
     chosen.retain(|fault| fault.number >= from);
@@ -162,7 +169,7 @@ fn chain(base: &[u8], from: u8) -> Vec<u8> {
         .fold(base.to_vec(), |table, fault| (fault.spoil)(table))
 }
 
-/// Adds tables with each byte disturbed: of the header in each way, of two records and behind them.
+/// Adds tables with each byte disturbed: of the header in each way, of two records and after them.
 fn every_byte(script: &mut Script) {
     script.title("table: each byte disturbed");
     for base in bases() {

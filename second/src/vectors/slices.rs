@@ -1,11 +1,11 @@
 //! Asks for the slice check: lengths, features, kinds, sides, flags, and each byte disturbed.
 
-use super::sample::{
+use super::Script;
+use crate::fixtures::{
     cancelled_cases, sound_cases, Case, FEATURE, FLAGS, KIND, PARTS, RECORD, SPARE,
 };
-use super::Script;
+use crate::layout::SLICE_BYTES;
 use crate::record::Kind;
-use crate::slice::SLICE_BYTES;
 
 /// Adds the asks that take the slice check one field at a time.
 pub fn add(script: &mut Script) {
@@ -25,7 +25,7 @@ pub fn add(script: &mut Script) {
     any_feature(script);
 }
 
-/// Answers an uncancelled and a cancelled slice of each kind.
+/// Returns an uncancelled and a cancelled slice of each kind.
 fn both_of_each_kind() -> impl Iterator<Item = Case> {
     Kind::ALL
         .into_iter()
@@ -122,7 +122,7 @@ fn feature_lengths(script: &mut Script) {
     }
 }
 
-/// Adds one wrong byte at each place of the feature, in what is handed and in the slice.
+/// Adds one wrong byte at each position of the feature, as an argument and in the slice.
 fn wrong_features(script: &mut Script) {
     script.title("slice: one wrong byte in the feature");
     for base in [
@@ -140,7 +140,7 @@ fn wrong_features(script: &mut Script) {
     }
 }
 
-/// Adds features of any 16 bytes, which are taken where the slice has the same.
+/// Adds features of any 16 bytes, which are accepted if the slice has the same.
 fn any_feature(script: &mut Script) {
     script.title("slice: any feature of 16 bytes");
     for base in [Case::any(Kind::PermDelta), Case::cancelled(Kind::TempDelta)] {

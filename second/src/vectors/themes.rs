@@ -1,14 +1,16 @@
-//! Permanent histories by theme, of which baselines are derived.
+//! Permanent histories by theme, to derive baselines from.
 
-use super::brief::{base, baseline, cancelling, change, closing, opening, SEQUENCES};
-use super::sample::{code, mentions, nil, sound_parts, unmentioned, Case, Time};
+use crate::fixtures::brief::{
+    base, baseline, cancelling, change, closing, from_to, opening, SEQUENCES,
+};
+use crate::fixtures::{code, mentions, nil, sound_parts, unmentioned, Case, Time};
 use crate::record::NONE;
-use crate::tables::Tables;
+use crate::tables::permanent;
 
 /// The last instant.
 const LAST: u32 = NONE - 1;
 
-/// A word, a title for a person, and histories.
+/// A word, a title for people, and histories.
 pub struct Theme {
     pub word: &'static str,
     pub title: &'static str,
@@ -16,11 +18,9 @@ pub struct Theme {
 }
 
 impl Theme {
-    /// Answers the permanent tables of the histories, each without a byte behind its records.
+    /// Returns the permanent tables of the histories, each without a byte after its records.
     pub fn tables(&self) -> impl Iterator<Item = Vec<u8>> + '_ {
-        self.histories
-            .iter()
-            .map(|cases| Tables::of(cases).permanent)
+        self.histories.iter().map(|cases| permanent(cases))
     }
 }
 
@@ -33,7 +33,7 @@ fn theme(word: &'static str, title: &'static str, histories: Vec<Vec<Case>>) -> 
     }
 }
 
-/// Answers every theme.
+/// Returns every theme.
 pub fn themes() -> Vec<Theme> {
     vec![
         theme("paper", "the paper's example", vec![paper()]),
@@ -52,14 +52,9 @@ pub fn themes() -> Vec<Theme> {
     ]
 }
 
-/// Makes the paper's example: all nil, and a code from 300 on.
+/// Makes the specification's example: all nil, and a code from 300 on.
 pub fn paper() -> Vec<Case> {
     vec![base().with_part(0, &nil(4)), change(1, 300, 7)]
-}
-
-/// Makes a BASELINE of a period, its life begun with it.
-fn from_to(sequence: u32, begin: u32, end: u32) -> Case {
-    baseline(sequence, [begin, end, begin, NONE], sequence as u16)
 }
 
 /// Makes histories without a state: without records, all cancelled, without an anchor.
@@ -105,7 +100,8 @@ fn changes() -> Vec<Vec<Case>> {
     histories
 }
 
-/// Makes changes that change nothing, BASELINEs of the same state, and a life begin given once more.
+/// Makes changes that change nothing, BASELINEs of the same state, and a life begin given once
+/// more.
 fn equal() -> Vec<Vec<Case>> {
     let same = |sequence, begin, end| baseline(sequence, [begin, end, 100, NONE], 1);
     vec![
@@ -297,7 +293,7 @@ mod tests {
     use crate::listing::listing;
     use crate::table::{check, Sides};
 
-    /// Answers the first lines of the listings of a theme, by its word.
+    /// Returns the first lines of the listings of a theme, by its word.
     fn answers(word: &str) -> Vec<String> {
         let theme = themes().into_iter().find(|theme| theme.word == word);
         let first = |table: Vec<u8>| listing(&table).lines().next().unwrap().to_string();

@@ -1,8 +1,8 @@
 //! Slices whose times run over the values that matter.
 
-use super::sample::{unmentioned, Case};
 use super::Script;
-use crate::property::PROPERTIES;
+use crate::fixtures::{unmentioned, Case};
+use crate::layout::PROPERTIES;
 use crate::record::{Kind, NONE};
 
 /// The times that the four times of a record run over.
@@ -29,14 +29,14 @@ fn products(script: &mut Script) {
     }
 }
 
-/// Answers every three values.
+/// Returns every three values.
 fn triples() -> impl Iterator<Item = [u32; 3]> {
     VALUES
         .into_iter()
         .flat_map(|a| pairs().map(move |[b, c]| [a, b, c]))
 }
 
-/// Answers every two values.
+/// Returns every two values.
 fn pairs() -> impl Iterator<Item = [u32; 2]> {
     VALUES
         .into_iter()

@@ -1,10 +1,11 @@
-//! Sound parts, sound slices, and ways to change them.
+//! Parts, slices and tables to try the rules on, sound and broken, and ways to change them.
 
-use crate::property::{PROPERTIES, PROPERTY_BYTES};
-use crate::record::{Correction, Head, Kind, Sequence, Side, Span, HEAD_BYTES, NONE, RECORD_BYTES};
-use crate::refusal::number_of;
-use crate::slice::{check, FEATURE_BYTES};
-use crate::table::HEADER_BYTES;
+pub mod brief;
+pub mod doubles;
+pub mod rows;
+
+use crate::layout::{bytes_of, FEATURE_BYTES, HEAD_BYTES, PROPERTIES, PROPERTY_BYTES};
+use crate::record::{Correction, Head, Kind, Sequence, Side, Span, NONE};
 
 /// The bytes of one property.
 pub type Part = [u8; PROPERTY_BYTES];
@@ -12,7 +13,7 @@ pub type Part = [u8; PROPERTY_BYTES];
 /// The eight properties of a record.
 pub type Area = [Part; PROPERTIES];
 
-/// The feature that the sample slices are of.
+/// The feature of the slices.
 pub const FEATURE: [u8; FEATURE_BYTES] = [
     0x3c, 0x8a, 0x01, 0xf2, 0x77, 0x5e, 0x4b, 0x10, 0x9d, 0x00, 0xee, 0x46, 0xb3, 0xff, 0x21, 0x6a,
 ];
@@ -34,7 +35,7 @@ pub enum Time {
     LifeEnd,
 }
 
-/// One slice check: a slice, and the feature and the side it is held against.
+/// One slice check: a slice, and the feature and the side it is checked against.
 #[derive(Clone)]
 pub struct Case {
     pub slice: Vec<u8>,
@@ -113,7 +114,7 @@ pub fn choices() -> impl Iterator<Item = Area> {
     })
 }
 
-/// Makes sound parts of every form, the plain and the full.
+/// Makes sound parts of every form: the simplest of each, and fuller ones.
 pub fn sound_parts() -> Vec<Part> {
     let mut parts = vec![unmentioned(), code(0), number(0), length(0, 1), point(0, 0)];
     parts.extend((1..=5).map(nil));
@@ -151,7 +152,8 @@ pub fn broken_parts() -> Vec<Part> {
 }
 
 impl Case {
-    /// Makes a slice of a kind, a period, a life and parts, held against its own feature and side.
+    /// Makes a slice of a kind, a period, a life and parts, checked against its own feature and
+    /// side.
     pub fn new(kind: Kind, period: Span, life: Span, parts: &Area) -> Case {
         let (correction, sequence) = (Correction(2), Sequence(70_001));
         let head = Head {
@@ -171,12 +173,13 @@ impl Case {
         }
     }
 
-    /// Makes a slice that is sound as any kind: a begin, no other time, every property mentioned.
+    /// Makes a slice that is sound for every kind: a begin, no other time, every property
+    /// mentioned.
     pub fn any(kind: Kind) -> Case {
         Case::new(kind, Span::new(100, NONE), Span::NEITHER, &mentions())
     }
 
-    /// Makes a sound slice of a kind, as it would mostly come.
+    /// Makes a typical sound slice of a kind.
     pub fn usual(kind: Kind) -> Case {
         let mut parts = [unmentioned(); PROPERTIES];
         parts[0] = code(5);
@@ -198,32 +201,32 @@ impl Case {
         .with_byte(FLAGS, 1)
     }
 
-    /// Answers the case with a byte of the slice set.
+    /// Returns the case with a byte of the slice set.
     pub fn with_byte(mut self, offset: usize, value: u8) -> Case {
         self.slice[offset] = value;
         self
     }
 
-    /// Answers the case with some bits of a byte of the slice turned over.
+    /// Returns the case with some bits of a byte of the slice flipped.
     pub fn disturbed(mut self, offset: usize, bits: u8) -> Case {
         self.slice[offset] ^= bits;
         self
     }
 
-    /// Answers the case with the slice cut, or made longer with zeros, to a length.
+    /// Returns the case with the slice cut, or made longer with zeros, to a length.
     pub fn resized(mut self, length: usize) -> Case {
         self.slice.resize(length, 0);
         self
     }
 
-    /// Answers the case with one of the four times set.
+    /// Returns the case with one of the four times set.
     pub fn with_time(mut self, time: Time, value: u32) -> Case {
         let start = TIMES + 4 * time as usize;
         self.slice[start..start + 4].copy_from_slice(&value.to_be_bytes());
         self
     }
 
-    /// Answers the case with all four times set.
+    /// Returns the case with all four times set.
     pub fn with_times(self, [begin, end, life_begin, life_end]: [u32; 4]) -> Case {
         self.with_time(Time::Begin, begin)
             .with_time(Time::End, end)
@@ -231,43 +234,43 @@ impl Case {
             .with_time(Time::LifeEnd, life_end)
     }
 
-    /// Answers the case with another sequence number.
+    /// Returns the case with another sequence number.
     pub fn with_sequence(mut self, sequence: u32) -> Case {
         self.slice[RECORD + 4..RECORD + 8].copy_from_slice(&sequence.to_be_bytes());
         self
     }
 
-    /// Answers the case with another correction number.
+    /// Returns the case with another correction number.
     pub fn with_correction(mut self, correction: u16) -> Case {
         self.slice[RECORD + 2..RECORD + 4].copy_from_slice(&correction.to_be_bytes());
         self
     }
 
-    /// Answers what the bytes of the record before its properties say.
+    /// Returns the head of the record.
     pub fn head(&self) -> Head {
         let head = self.slice[RECORD..PARTS].try_into();
         Head::read(&head.expect("a slice has a head"))
     }
 
-    /// Answers the record of the slice.
+    /// Returns the record of the slice.
     pub fn record(&self) -> Vec<u8> {
         self.slice[RECORD..].to_vec()
     }
 
-    /// Answers the case with one property replaced.
+    /// Returns the case with one property replaced.
     pub fn with_part(mut self, index: usize, part: &Part) -> Case {
         let start = PARTS + index * PROPERTY_BYTES;
         self.slice[start..start + PROPERTY_BYTES].copy_from_slice(part);
         self
     }
 
-    /// Answers the case with all eight properties replaced.
+    /// Returns the case with all eight properties replaced.
     pub fn with_parts(mut self, parts: &Area) -> Case {
         self.slice[PARTS..].copy_from_slice(&parts.concat());
         self
     }
 
-    /// Answers the case held against another feature.
+    /// Returns the case checked against another feature.
     pub fn with_feature(self, feature: &[u8]) -> Case {
         Case {
             feature: feature.to_vec(),
@@ -275,18 +278,13 @@ impl Case {
         }
     }
 
-    /// Answers the case held against another side.
+    /// Returns the case checked against another side.
     pub fn with_side(self, side: u8) -> Case {
         Case { side, ..self }
     }
-
-    /// Answers the number of the slice check, 0 where the slice is sound.
-    pub fn number(&self) -> u8 {
-        number_of(check(&self.slice, &self.feature, self.side))
-    }
 }
 
-/// Makes a table of a side that counts the records it is given, filled up to a length.
+/// Makes a table of a side with these records, filled up to a length.
 pub fn table(side: Side, records: &[Vec<u8>], length: usize, fill: u8) -> Vec<u8> {
     let head = [b'T', b'S', b'L', side.byte(), 0, 1];
     let count = (records.len() as u16).to_be_bytes();
@@ -302,16 +300,16 @@ pub fn cases(keys: &[(Kind, u32)]) -> Vec<Case> {
         .collect()
 }
 
-/// Makes a table of the records of some cases, with so many bytes behind them.
+/// Makes a table of the records of some cases, with this many bytes after them.
 pub fn table_of(cases: &[Case], rest: usize, fill: u8) -> Vec<u8> {
     let side = cases.first().map_or(0, |case| case.side);
     let side = Side::of(side).expect("cases are of a side");
     let records: Vec<_> = cases.iter().map(Case::record).collect();
-    let length = HEADER_BYTES + RECORD_BYTES * records.len() + rest;
+    let length = bytes_of(records.len()) + rest;
     table(side, &records, length, fill)
 }
 
-/// Makes the sound slices: for each kind the usual and the rarer.
+/// Makes sound slices: typical and rarer ones of each kind.
 pub fn sound_cases() -> Vec<Case> {
     let (baseline, permdelta, tempdelta) = (
         Case::usual(Kind::Baseline),
@@ -340,17 +338,10 @@ mod tests {
     use super::*;
     use crate::property::decode;
 
-    /// Sound samples are sound, broken ones broken.
+    /// Sound parts are sound, broken ones broken.
     #[test]
-    fn samples_are_what_they_are_called() {
+    fn parts_are_what_they_are_called() {
         assert!(sound_parts().iter().all(|part| decode(part).is_some()));
         assert!(broken_parts().iter().all(|part| decode(part).is_none()));
-        assert!(sound_cases()
-            .iter()
-            .chain(&cancelled_cases())
-            .all(|case| case.number() == 0));
-        assert!(Kind::ALL
-            .into_iter()
-            .all(|kind| Case::any(kind).number() == 0));
     }
 }
