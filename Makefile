@@ -19,8 +19,7 @@ wrong:
 	@tools/wrong
 
 sample:
-	@echo 'proving and building: some minutes' >&2
-	@mkdir -p target && { rt check vectors >target/sample.log 2>&1 || { cat target/sample.log; exit 1; }; }
+	@tools/prove vectors
 	@samples/ask samples/feed
 	@samples/ask samples/states
 	@samples/ask samples/slices
@@ -29,8 +28,7 @@ FILE = samples/runway.tsl
 
 list:
 	@[ -r '$(FILE)' ] || { echo 'make list: there is no $(FILE)' >&2; exit 1; }
-	@echo 'proving and building: some minutes' >&2
-	@mkdir -p target && { rt check listing >target/list.log 2>&1 || { cat target/list.log; exit 1; }; }
+	@tools/prove listing
 	@tools/run listing <'$(FILE)'
 
 lib:
