@@ -4,7 +4,7 @@
 # make list     proves and builds the program `listing`, and prints the listing of FILE, samples/runway.tsl if not said
 # make lib      proves the C interface and writes target/staticlib/libtimeslices.a, for x86-64, and on another processor
 #               target/native/libtimeslices.a too, for that one
-# make night    the night of the cancelled runway change, by the C example and by that of the Rust crate
+# make night    the examples: the night of the cancelled runway change, in C and in Rust, and the edges of the C interface
 # make compare  plays random calls to the library and to the second program, FOR=60s if not said
 # make fuzz     the same comparison, guided by coverage, FOR=60s if not said
 # make bench    measures the library against plain Rust
@@ -19,8 +19,7 @@ wrong:
 	@tools/wrong
 
 sample:
-	@echo 'proving and building: some minutes' >&2
-	@mkdir -p target && { rt check vectors >target/sample.log 2>&1 || { cat target/sample.log; exit 1; }; }
+	@tools/prove vectors
 	@samples/ask samples/feed
 	@samples/ask samples/states
 	@samples/ask samples/slices
@@ -29,8 +28,7 @@ FILE = samples/runway.tsl
 
 list:
 	@[ -r '$(FILE)' ] || { echo 'make list: there is no $(FILE)' >&2; exit 1; }
-	@echo 'proving and building: some minutes' >&2
-	@mkdir -p target && { rt check listing >target/list.log 2>&1 || { cat target/list.log; exit 1; }; }
+	@tools/prove listing
 	@tools/run listing <'$(FILE)'
 
 lib:
