@@ -11,13 +11,12 @@ use lib.Dec.{eqb}
 use borrow.Author.Tests.{not-true, le-leb, eq-eqb}
 use Rattle.laws.specs.Lists.{any}
 use Rattle.laws.specs.Keyed.{In}
-use Rattle.laws.specs.Refusals.{Test}
+use Rattle.laws.specs.Refusals.{Test, Passed, FirstFails}
 use Rattle.laws.proofs.Tests.{contrary, and-both, or-neither}
 use Rattle.laws.proofs.Lists.{map-in, any-none, none-any}
-use Rattle.laws.proofs.Refusals.{Passed, FirstFails, given-number}
-use Rattle.octets.specs.Bytes.{filled}
+use Rattle.laws.proofs.Refusals.{given-number}
+use Rattle.octets.specs.Bytes.{filled, Bytes}
 use Rattle.octets.specs.Writing.{bytesOf}
-use Rattle.octets.proofs.Runs.{Bytes}
 use Rattle.numbers.specs.declared.Instant.{Instant}
 use Rattle.property.specs.Eight.{breaks, mentioned, eight}
 use Rattle.slice.specs.Record.{baseline, permdelta, permanent, ofSide, partsOf, Property, unmentioned, says, propertyOf, Slice, viewOf}

@@ -4,8 +4,7 @@ use mathlib.Core.Path.{_≡_}
 use mathlib.Core.List.{List, [], _∷_, _++_}
 use mathlib.Core.Bool.{Bool, true, false}
 use mathlib.Core.Logic.{_↔_}
-use Rattle.laws.specs.Refusals.{Test, test}
-use Rattle.laws.proofs.Refusals.{FirstFails}
+use Rattle.laws.specs.Refusals.{Test, test, FirstFails}
 use Rattle.numbers.specs.declared.Instant.{Instant}
 use Rattle.slice.specs.Record.{recordSize, Slice}
 use Rattle.slice.specs.Check.{sliceTests}

@@ -10,9 +10,9 @@ use lib.Seq.{take-at, drop-at}
 use lib.Dec.{eqb, ltb}
 use borrow.Author.Tests.{not-false, eqb-true, eq-eqb, ltb-true, lt-ltb}
 use Rattle.laws.specs.Lists.{any}
-use Rattle.laws.specs.Refusals.{test}
+use Rattle.laws.specs.Refusals.{test, Passed, FirstFails}
 use Rattle.laws.proofs.Tests.{tests, iff, and-both}
-use Rattle.laws.proofs.Refusals.{Passed, FirstFails, answer-given, number-given, given-passed, given-number}
+use Rattle.laws.proofs.Refusals.{answer-given, number-given, given-passed, given-number}
 use Rattle.octets.specs.Bytes.{filled}
 use Rattle.octets.proofs.Runs.{same-bytes, bytes-same}
 use Rattle.property.specs.Eight.{breaks}

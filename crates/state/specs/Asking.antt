@@ -1,6 +1,7 @@
 -- The questions about an instant: their refusals in order, and their answers (document 01, "Refusal numbers" and "State at an
 -- instant t"). Assumes nothing.
 use Prim.Native.Nat.{ℕ, _+_, _*_}
+use mathlib.Core.Path.{_≡_}
 use mathlib.Core.Bool.{Bool, not, _||_}
 use mathlib.Core.List.{List, [], _∷_, _++_, map}
 use mathlib.Core.Option.{Option, none, some}
@@ -23,7 +24,7 @@ use Rattle.history.specs.Counted.{sliceKey}
 use Rattle.history.specs.Permanent.{Standing, refuses, known, permanentAt}
 use Rattle.history.specs.Snapshot.{passing, snapshotAt, instants}
 use Rattle.history.specs.Source.{line, mentions, lastMention}
-use Rattle.state.specs.Written.{stateRecord}
+use Rattle.state.specs.Written.{nilUnknown, stateRecord}
 use Rattle.state.specs.declared.answer.Outcome.{Outcome}
 use Rattle.state.specs.declared.answer.Outcome.the-variants as outcome
 use Rattle.state.specs.declared.question.Place.{Place}
@@ -122,16 +123,31 @@ sourceOf (place.Temporary n) = source.Temporary
 sourceOf place.Unmentioned = source.Unmentioned
 sourceOf (place.Refused f) = source.Refused f
 
--- what is shown of the part of lent bytes that has n bytes from a place on: where it points, and its bytes
-abbrev pub partOf : RefT (List ℕ) → ℕ → ℕ → (ℕ × ℕ) × List ℕ
-partOf s at n = ((s .ptr .0, at + s .ptr .1), take n (drop at (s .now)))
+-- the bytes of the property at a place; none where the question is refused or nothing mentions it
+abbrev pub bytesAt : List ℕ → List ℕ → Place → List ℕ
+bytesAt p t (place.Permanent at) = take (strideOf p) (drop at p)
+bytesAt p t (place.Temporary at) = take (strideOf t) (drop at t)
+bytesAt p t place.Unmentioned = []
+bytesAt p t (place.Refused f) = []
 
--- the part of that table that a place begins; an empty part of the permanent table's front where there is none
+-- where a part of lent bytes points that begins at a place in them
+abbrev pub pointsInto : RefT (List ℕ) → ℕ → ℕ × ℕ
+pointsInto s at = (s .ptr .0, at + s .ptr .1)
+
+-- the part that the property question hands back: where it points, and its bytes. Without bytes it is at the permanent table's front
 abbrev pub handed : Place → RefT (List ℕ) → RefT (List ℕ) → (ℕ × ℕ) × List ℕ
-handed (place.Permanent at) p t = partOf p at (strideOf (p .now))
-handed (place.Temporary at) p t = partOf t at (strideOf (t .now))
-handed place.Unmentioned p t = partOf p 0 0
-handed (place.Refused f) p t = partOf p 0 0
+handed (place.Permanent at) p t = (pointsInto p at, bytesAt (p .now) (t .now) (place.Permanent at))
+handed (place.Temporary at) p t = (pointsInto t at, bytesAt (p .now) (t .now) (place.Temporary at))
+handed place.Unmentioned p t = (pointsInto p 0, bytesAt (p .now) (t .now) place.Unmentioned)
+handed (place.Refused f) p t = (pointsInto p 0, bytesAt (p .now) (t .now) (place.Refused f))
+
+-- the bytes b, of a property in a snapshot, are those at the place that the property question tells; nil, unknown where nothing
+-- mentions it
+abbrev pub Tells : List ℕ → List ℕ → List ℕ → Place → Type 0
+Tells p t b (place.Permanent k) = b ≡ bytesAt p t (place.Permanent k)
+Tells p t b (place.Temporary k) = b ≡ bytesAt p t (place.Temporary k)
+Tells p t b place.Unmentioned = b ≡ nilUnknown (strideOf p)
+Tells p t b (place.Refused f) = ⊥
 
 -- `unfolding asking` opens every definition that a question computes by
 unfoldable pub asking : Unit {0}

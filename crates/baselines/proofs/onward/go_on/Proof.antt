@@ -10,7 +10,7 @@ use lib.Dec.{eqb, ltb}
 use borrow.Author.Tests.{not-true, not-false, eqb-true, ltb-true}
 use Rattle.laws.proofs.Tests.{tests, and-both}
 use Rattle.octets.specs.Writing.{pasted}
-use Rattle.octets.proofs.Runs.{Bytes}
+use Rattle.octets.specs.Bytes.{Bytes}
 use Rattle.numbers.specs.Numbers.{noInstant, isNone, sameInstant}
 use Rattle.numbers.specs.declared.Instant.{Instant}
 use Rattle.numbers.proofs.Facts.{none-false}

@@ -6,7 +6,7 @@ use native.Mathlib.Omega.{arith}
 use lib.ListN.{length, take, drop}
 use denote.Ref.{RefT}
 use Rattle.table.specs.Header.{strideOf}
-use Rattle.state.specs.Asking.{partOf, handed}
+use Rattle.state.specs.Asking.{pointsInto, handed}
 use Rattle.state.specs.declared.question.Place.{Place}
 use Rattle.state.proofs.Placed.{permanent-within, temporary-within}
 use borrow.Author.Needs.{needs}
@@ -14,7 +14,8 @@ use Rattle.state.proofs.question.property.Statement.{statement}
 use Rattle.state.proofs.question.property.Tie as tie
 
 -- the part as it was made, and as the definition has it
-made : (x : RefT (List ℕ)) (at s n : ℕ) → s ≡ n → ((x .ptr .0, at + x .ptr .1), take (at + s - at) (drop at (x .now))) ≡ partOf x at n
+made : (x : RefT (List ℕ)) (at s n : ℕ) → s ≡ n
+    → _≡_ {A = (ℕ × ℕ) × List ℕ} (pointsInto x at, take (at + s - at) (drop at (x .now))) (pointsInto x at, take n (drop at (x .now)))
 made x at s n e = let z : at + s - at ≡ n = omega arith in rw z
 
 within : (c : tie.After-stride-of) → c .before .before .at .given .0 .0 + strideOf (c .before .before .before .before .before .before .before .args .permanent .now) ≤ length (c .before .before .before .before .before .before .before .args .permanent .now)
