@@ -12,6 +12,7 @@ pub mod Filled
 pub mod Pasting
 pub mod Reach
 pub mod Placed
+pub mod Replies
 pub mod Stages
 pub mod Agrees
 pub mod Refused
