@@ -13,6 +13,7 @@ pub mod Pasting
 pub mod Placed
 pub mod Handed
 pub mod Reach
+pub mod Replies
 pub mod Stages
 pub mod Agrees
 pub mod Refused

@@ -10,11 +10,12 @@ use lib.Dec.{eqb, ltb}
 use denote.Ref.{RefT}
 use Rattle.laws.specs.Lists.{first}
 use Rattle.laws.specs.Refusals.{Test, test, refuse}
+use Rattle.laws.specs.Replies.{Reply, acceptedAs}
 use Rattle.octets.specs.Bytes.{sameBytes}
 use Rattle.numbers.specs.Numbers.{isNone}
 use Rattle.numbers.specs.declared.Instant.{Instant}
 use Rattle.slice.specs.Record.{recordSize, keyOf, sameKey, Slice, viewOf}
-use Rattle.slice.specs.Check.{refused}
+use Rattle.slice.specs.Check.{refusalReply, refused}
 use Rattle.slice.specs.declared.check.Checked.{Checked}
 use Rattle.slice.specs.declared.check.Checked.the-variants.{Sound}
 use Rattle.table.specs.Header.{featureOf, strideOf, recordsOf}
@@ -79,6 +80,11 @@ unfoldable pub snapshotOf : List ℕ → List ℕ → Instant → List ℕ → O
 snapshotOf p t at buffer =
     refuse refusedOutcome (bothTests p t ++ writingTests p at buffer) (outcomeOf (snapshotAt at (slicesOf p) (slicesOf t)))
 
+-- in numbers: written, 1
+unfoldable pub outcomeReply : Outcome → Reply
+outcomeReply outcome.Written = acceptedAs 1 0
+outcomeReply (outcome.Refused f) = refusalReply f
+
 -- the lent buffer after an answer: the record of the state, or as it was
 abbrev pub recordOf : ℕ → Instant → Standing → List ℕ → List ℕ
 recordOf stride at (refuses n) buffer = buffer
@@ -116,12 +122,26 @@ placeAt p t at n (known s) = placed p t n (lastMention n (passing at (slicesOf t
 unfoldable pub placeOf : List ℕ → List ℕ → Instant → ℕ → Place
 placeOf p t at n = refuse refusedPlace (bothTests p t ++ askingTests at n) (placeAt p t at n (permanentAt at (slicesOf p)))
 
+-- in numbers: in the permanent table, 1, and where it begins; in the temporary one, 2, and where it begins; unmentioned, 3
+unfoldable pub placeReply : Place → Reply
+placeReply (place.Permanent at) = acceptedAs 1 at
+placeReply (place.Temporary at) = acceptedAs 2 at
+placeReply place.Unmentioned = acceptedAs 3 0
+placeReply (place.Refused f) = refusalReply f
+
 -- the refusal, "unmentioned", or which table
 abbrev pub sourceOf : Place → Source
 sourceOf (place.Permanent n) = source.Permanent
 sourceOf (place.Temporary n) = source.Temporary
 sourceOf place.Unmentioned = source.Unmentioned
 sourceOf (place.Refused f) = source.Refused f
+
+-- in numbers: the permanent table, 1; the temporary one, 2; unmentioned, 3
+unfoldable pub sourceReply : Source → Reply
+sourceReply source.Permanent = acceptedAs 1 0
+sourceReply source.Temporary = acceptedAs 2 0
+sourceReply source.Unmentioned = acceptedAs 3 0
+sourceReply (source.Refused f) = refusalReply f
 
 -- the bytes of the property at a place; none where the question is refused or nothing mentions it
 abbrev pub bytesAt : List ℕ → List ℕ → Place → List ℕ
@@ -151,5 +171,5 @@ Tells p t b (place.Refused f) = ⊥
 
 -- `unfolding asking` opens every definition that a question computes by
 unfoldable pub asking : Unit {0}
-unfolding slicesOf permanentTests bothTests checkBoth misfits permanentStateOf stateAtOf snapshotOf placeIn placeOf stateRecord line mentions lastMention instants ruling
+unfolding slicesOf permanentTests bothTests checkBoth misfits permanentStateOf stateAtOf snapshotOf outcomeReply placeIn placeOf placeReply sourceReply stateRecord line mentions lastMention instants ruling
 asking = tt
