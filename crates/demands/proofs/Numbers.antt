@@ -38,9 +38,10 @@ Accepted (refusedWith n) = ⊥
 Accepted (acceptedAs k v) = Unit {0}
 
 by-tests : (tests : List Test) (accepted reply : Reply) → Accepted accepted → reply ≡ refuse refusedWith tests accepted → RefusedBy tests reply
-by-tests tests accepted reply a e n =
-    (λ q. given-number refusedWith accepted (λ k r. subst (λ x. Accepted x) (sym r) a) refusal-tells n tests (sym e ∙ q),
-    λ f. e ∙ number-given refusedWith accepted n tests f)
+by-tests tests accepted reply a e n = (
+  λ q. given-number refusedWith accepted (λ k r. subst (λ x. Accepted x) (sym r) a) refusal-tells n tests (sym e ∙ q),
+  λ f. e ∙ number-given refusedWith accepted n tests f,
+)
 
 -- ---- a new table
 pub creation-numbered : (t : List ℕ) (side : ℕ) → RefusedBy (creationTests t side) (creationReply (creationOf t side))
