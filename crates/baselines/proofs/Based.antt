@@ -14,9 +14,9 @@ use Rattle.laws.specs.Keyed.{In}
 use Rattle.laws.proofs.Tests.{contrary, and-both}
 use Rattle.laws.proofs.Lists.{map-in, in-map, all-in, rest-whole}
 use Rattle.laws.proofs.Pieces.{pieces-sized, joined-pieces}
-use Rattle.octets.specs.Bytes.{byteOf, digits, each, there, beOf, filled}
+use Rattle.octets.specs.Bytes.{byteOf, digits, each, there, beOf, filled, Bytes}
 use Rattle.octets.specs.Writing.{bytesOf}
-use Rattle.octets.proofs.Runs.{Bytes, each-at}
+use Rattle.octets.proofs.Runs.{each-at}
 use Rattle.octets.proofs.Readers.{be-whole}
 use Rattle.numbers.specs.Numbers.{noInstant}
 use Rattle.property.specs.Eight.{propertiesOf, mentioned}

@@ -9,8 +9,7 @@ use Rattle.laws.specs.Lists.{pieces}
 use Rattle.laws.specs.Keyed.{In}
 use Rattle.laws.proofs.Tests.{pick-ind}
 use Rattle.laws.proofs.Lists.{map-in}
-use Rattle.octets.specs.Bytes.{beOf}
-use Rattle.octets.proofs.Runs.{Bytes}
+use Rattle.octets.specs.Bytes.{beOf, Bytes}
 use Rattle.numbers.specs.Numbers.{noInstant}
 use Rattle.numbers.specs.declared.Instant.{Instant}
 use Rattle.slice.specs.Record.{baseline, permdelta, recordSize, periodOf, lifeOf, viewOf}

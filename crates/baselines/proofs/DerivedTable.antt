@@ -13,7 +13,7 @@ use Rattle.laws.specs.Keyed.{In}
 use Rattle.laws.proofs.Tests.{or-neither}
 use Rattle.laws.proofs.Pieces.{Sized, joined-length}
 use Rattle.laws.proofs.Refusals.{passed-split, passed-answer}
-use Rattle.octets.proofs.Runs.{Bytes}
+use Rattle.octets.specs.Bytes.{Bytes}
 use Rattle.slice.specs.Record.{permanent, recordSize, viewOf}
 use Rattle.slice.specs.declared.check.Checked.the-variants.{Sound}
 use Rattle.table.specs.Header.{countOf, featureOf, strideOf, roomOf, recordsOf, written}

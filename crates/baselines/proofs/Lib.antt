@@ -1,6 +1,7 @@
 pub mod Soonest
 pub mod Changes
 pub mod Pasted
+pub mod Replies
 pub mod Standings
 pub mod Walked
 pub mod Decided

@@ -2,8 +2,14 @@
 use mathlib.Core.Path.{refl}
 use Rattle.laws.specs.OneAnswer.{OneAnswer}
 use Rattle.laws.proofs.OneAnswer.{same, both}
+use Rattle.baselines.proofs.Replies.{derivation-told}
 use Rattle.baselines.proofs.derivation.derive.Kinds as derive-k
 use Rattle.baselines.proofs.derivation.derive.Reads as derive
 
 pub derive-one : OneAnswer derive-k.ps derive-k.r derive.Asked derive.Learnt
-derive-one κs a = (tt, λ z z' ws ws' p q. (same (p .0) (q .0), both refl (both (same (rw (p .0) at (p .1)) (rw (q .0) at (q .1))) refl)))
+derive-one κs a = (
+  tt,
+  λ z z' ws ws' p q.
+      let e = derivation-told z z' (same (p .0) (q .0)) in
+      (e, both refl (both (same (rw e at (p .1)) (q .1)) refl)),
+)

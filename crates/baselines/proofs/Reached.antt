@@ -8,7 +8,7 @@ use lib.ListN.{length}
 use Rattle.laws.specs.Lists.{kept}
 use Rattle.laws.specs.Keyed.{In, Rising}
 use Rattle.laws.proofs.Tests.{tests, and-both}
-use Rattle.octets.proofs.Runs.{Bytes}
+use Rattle.octets.specs.Bytes.{Bytes}
 use Rattle.numbers.specs.Numbers.{noInstant, isNone, given, before, atMost}
 use Rattle.numbers.specs.declared.Instant.{Instant}
 use Rattle.slice.specs.Record.{baseline, recordSize, keyLess, sameKey, Property, unmentioned, says, lifeOf, Slice, viewOf}

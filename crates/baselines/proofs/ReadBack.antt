@@ -9,7 +9,7 @@ use lib.ListN.{length}
 use borrow.Author.Tests.{ne-eqb}
 use Rattle.laws.specs.Lists.{any}
 use Rattle.laws.proofs.Tests.{contrary}
-use Rattle.octets.proofs.Runs.{Bytes}
+use Rattle.octets.specs.Bytes.{Bytes}
 use Rattle.numbers.specs.Numbers.{noInstant, isNone}
 use Rattle.numbers.specs.declared.Instant.{Instant}
 use Rattle.slice.specs.Record.{permanent, recordSize}

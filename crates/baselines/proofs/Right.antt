@@ -14,7 +14,7 @@ use Rattle.laws.specs.Keyed.{In, Rising}
 use Rattle.laws.proofs.Tests.{contrary, and-both}
 use Rattle.laws.proofs.Lists.{map-in}
 use Rattle.laws.proofs.Orders.{true-lex}
-use Rattle.octets.proofs.Runs.{Bytes}
+use Rattle.octets.specs.Bytes.{Bytes}
 use Rattle.numbers.specs.Numbers as numbers
 use Rattle.numbers.specs.Numbers.{noInstant}
 use Rattle.numbers.specs.declared.Instant.{Instant}

@@ -2,11 +2,12 @@
 use Prim.Native.Nat.{ℕ, _≤_}
 use mathlib.Core.Path.{_≡_, refl, sym, ap, _∙_}
 use mathlib.Core.List.{List}
-use mathlib.Core.Bool.{Bool, true, false, true≢false}
+use mathlib.Core.Bool.{true, false}
 use native.Mathlib.Omega.{arith}
 use lib.ListN.{length}
 use lib.Dec.{eqb}
 use Rattle.laws.proofs.Tests.{contrary}
+use Rattle.laws.proofs.Replies.{refusal-apart, refusal-tells}
 use Rattle.numbers.specs.Numbers.{isNone}
 use Rattle.numbers.specs.declared.Instant.{Instant}
 use Rattle.slice.specs.Record.{recordSize}
@@ -17,28 +18,21 @@ use Rattle.table.specs.Rules.{checkOrder}
 use Rattle.history.specs.State.{State}
 use Rattle.history.specs.Permanent.{Standing, refuses, known, permanentAt}
 use Rattle.history.specs.Derived.{hasTwo}
-use Rattle.state.specs.Asking.{slicesOf, stateAtOf, outcomeOf}
-use Rattle.state.specs.declared.answer.Outcome.{Outcome}
+use Rattle.state.specs.Asking.{slicesOf, stateAtOf, outcomeOf, outcomeReply}
 use Rattle.state.specs.declared.answer.Outcome.the-variants as outcome
 use Rattle.state.proofs.Stages.{order-left, left-asked}
 use Rattle.baselines.specs.Carried.{Shows, Left}
 use Rattle.baselines.specs.Steps.{stepOf}
 use Rattle.baselines.specs.declared.drawing.Step.{Step}
 
-abbrev numberIn : Outcome → ℕ
-numberIn outcome.Written = 0
-numberIn (outcome.Refused f) = f .number
-
-abbrev isWritten : Outcome → Bool
-isWritten outcome.Written = true
-isWritten (outcome.Refused f) = false
-
 pub told-refused : (v : Standing) (f : Refusal) → outcomeOf v ≡ outcome.Refused f → v ≡ refuses (f .number)
-told-refused (refuses n) f e = ap refuses (ap numberIn e)
-told-refused (known s) f e = absurd (true≢false (ap isWritten e))
+unfolding outcomeReply
+told-refused (refuses n) f e = ap refuses (refusal-tells n (f .number) (ap outcomeReply e))
+told-refused (known s) f e = absurd (refusal-apart (f .number) 1 0 (sym (ap outcomeReply e)))
 
 pub told-written : (v : Standing) → outcomeOf v ≡ outcome.Written → (s : State) × (v ≡ known s)
-told-written (refuses n) e = absurd (true≢false (sym (ap isWritten e)))
+unfolding outcomeReply
+told-written (refuses n) e = absurd (refusal-apart n 1 0 (ap outcomeReply e))
 told-written (known s) e = (s, refl)
 
 -- a table whose room and order are right, an instant that is given, and a record that fits: the answer is the standing's

@@ -6,7 +6,9 @@ use lib.ListN.{length}
 use lib.Dec.{ltb}
 use Rattle.laws.specs.Lists.{any, joined}
 use Rattle.laws.specs.Refusals.{Test, test, refuse}
+use Rattle.laws.specs.Replies.{Reply, acceptedAs}
 use Rattle.slice.specs.Record.{permanent}
+use Rattle.slice.specs.Check.{refusalReply}
 use Rattle.table.specs.Header.{featureOf, strideOf}
 use Rattle.table.specs.Rules.{fails}
 use Rattle.table.specs.Deliveries.{holding}
@@ -38,6 +40,11 @@ unfoldable pub derivationOf : List ℕ → List ℕ → Derivation
 derivationOf p output =
     refuse refusedDerivation (permanentTests p ++ derivingTests p output) (derivation.Derived (length (derivedRecords p)))
 
+-- in numbers: derived, 1, and the number of records
+unfoldable pub derivationReply : Derivation → Reply
+derivationReply (derivation.Derived n) = acceptedAs 1 n
+derivationReply (derivation.Refused f) = refusalReply f
+
 -- the output after an answer: a permanent table of the same feature with its header, and every byte beyond it as it was
 abbrev pub afterDeriving : Derivation → List ℕ → List ℕ → List ℕ
 afterDeriving (derivation.Derived n) p output = holding output permanent (featureOf p) (derivedRecords p)
@@ -45,5 +52,5 @@ afterDeriving (derivation.Refused f) p output = output
 
 -- `unfolding deriveds` opens every definition that a derivation computes by
 unfoldable pub deriveds : Unit {0}
-unfolding recordFor derivedRecords derivingTests derivationOf derivations asking
+unfolding recordFor derivedRecords derivingTests derivationOf derivationReply derivations asking
 deriveds = tt

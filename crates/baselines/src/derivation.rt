@@ -7,7 +7,7 @@ ghost use Rattle.octets.specs.Writing.{pasted};
 ghost use Rattle.slice.specs.Record.{recordSize};
 ghost use Rattle.slice.specs.Record as Record;
 ghost use Rattle.table.specs.Header.{strideOf, headerOf};
-ghost use Rattle.baselines.specs.Deriving.{derivedRecords, derivationOf, afterDeriving};
+ghost use Rattle.baselines.specs.Deriving.{derivedRecords, derivationOf, derivationReply, afterDeriving};
 ghost use Rattle.baselines.specs.Steps.{handedOf};
 use crate::drawing::Drawn;
 use crate::drawing::draw_all;
@@ -58,7 +58,7 @@ fn hand_over(permanent: &[u8], drawn: &[u8], count: usize, output: &mut [u8]) ->
 // records or more than the output holds. No derived record fails the slice check, 24, which is proved and
 // so not looked at.
 pub fn derive(permanent: &[u8], output: &mut [u8]) -> Derivation
-    ensures answer { λ r. ⌜ r ≡ derivationOf (now (permanent .entry)) (now (output .entry)) ⌝ }
+    ensures answer { λ r. ⌜ derivationReply r ≡ derivationReply (derivationOf (now (permanent .entry)) (now (output .entry))) ⌝ }
     ensures buffer { λ r. ⌜ now (output .exit) ≡ afterDeriving r (now (permanent .entry)) (now (output .entry)) ⌝ }
 {
     if let Checked::Refused(refusal) = check_table(permanent, Sides::Permanent) {

@@ -1,16 +1,15 @@
 -- The standing at an instant as tests: 21, 20, 22. Assumes nothing.
 use Prim.Native.Nat.{ℕ}
-use mathlib.Core.Path.{_≡_, refl, sym, _∙_}
+use mathlib.Core.Path.{_≡_, refl}
 use mathlib.Core.List.{List}
 use mathlib.Core.Bool.{Bool, true, false, cond}
 use Rattle.laws.specs.Refusals.{Test, refuse}
-use Rattle.laws.proofs.Refusals.{number-given, given-number}
 use Rattle.numbers.specs.declared.Instant.{Instant}
 use Rattle.slice.specs.Record.{Slice}
 use Rattle.history.specs.Anchor.{Anchor, based, opened, nowhere, two, anchor}
 use Rattle.history.specs.State.{State, started, appliedAll}
 use Rattle.history.specs.Permanent.{following, Standing, refuses, known, withdrawn, unlessWithdrawn, reached, standingFrom, permanentAt}
-use Rattle.demands.specs.Refused.{RefusedBy, isTwo, isNowhere, isWithdrawn, standingTests}
+use Rattle.demands.specs.Refused.{isTwo, isNowhere, isWithdrawn, standingTests}
 
 -- the state that an anchor gives; where there is none, any
 abbrev stateBy : Instant → List Slice → State → Anchor → State
@@ -40,9 +39,3 @@ module _ {A : Type 0} (refused : ℕ → A) (written : State → A) where
       go (opened o) = split (withdrawn t (appliedAll (started o) (following t slices (opened o)))) _
       go nowhere = refl
       go two = refl
-
--- an answer that is made by tests alone
-pub by-tests : {A : Type 0} (refused : ℕ → A) → ((m n : ℕ) → refused m ≡ refused n → m ≡ n) → (tests : List Test) (accepted answer : A)
-    → ((n : ℕ) → refused n ≡ accepted → ⊥) → answer ≡ refuse refused tests accepted → RefusedBy refused tests answer
-by-tests refused tells tests accepted answer apart e n =
-    (λ q. given-number refused accepted apart tells n tests (sym e ∙ q), λ f. e ∙ number-given refused accepted n tests f)

@@ -4,8 +4,8 @@ use mathlib.Core.Path.{_≡_}
 use mathlib.Core.List.{List, [], _∷_, _++_}
 use mathlib.Core.Bool.{Bool, true, false}
 use mathlib.Core.Logic.{_↔_}
-use Rattle.laws.specs.Refusals.{Test, test}
-use Rattle.laws.proofs.Refusals.{FirstFails}
+use Rattle.laws.specs.Refusals.{Test, test, FirstFails}
+use Rattle.laws.specs.Replies.{Reply, refusedWith}
 use Rattle.numbers.specs.declared.Instant.{Instant}
 use Rattle.slice.specs.Record.{recordSize, Slice}
 use Rattle.slice.specs.Check.{sliceTests}
@@ -19,9 +19,9 @@ use Rattle.history.specs.Permanent.{following, withdrawn}
 use Rattle.state.specs.Asking.{slicesOf, permanentTests, bothTests, writingTests, askingTests}
 use Rattle.baselines.specs.Deriving.{derivingTests}
 
--- an answer is a refusal with n exactly where the first of some tests that fails has the number n
-abbrev pub RefusedBy : {A : Type 0} → (ℕ → A) → List Test → A → Type 0
-RefusedBy refused tests answer = (n : ℕ) → (answer ≡ refused n) ↔ FirstFails n tests
+-- a call is refused with n exactly where the first of some tests that fails has the number n
+abbrev pub RefusedBy : List Test → Reply → Type 0
+RefusedBy tests reply = (n : ℕ) → (reply ≡ refusedWith n) ↔ FirstFails n tests
 
 -- ---- the tests of each call, in their order
 -- arrival: 1-7, 9-18
@@ -61,7 +61,7 @@ stateTests p at buffer = (permanentTests p ++ writingTests p at buffer) ++ stand
 abbrev pub snapshotTests : List ℕ → List ℕ → Instant → List ℕ → List Test
 snapshotTests p t at buffer = (bothTests p t ++ writingTests p at buffer) ++ standingTests at (slicesOf p)
 
--- property: 1-7, 1-7, 8, 19, 21, 20, 22
+-- both property questions: 1-7, 1-7, 8, 19, 21, 20, 22
 abbrev pub propertyTests : List ℕ → List ℕ → Instant → ℕ → List Test
 propertyTests p t at n = (bothTests p t ++ askingTests at n) ++ standingTests at (slicesOf p)
 

@@ -1,7 +1,7 @@
 -- DEMAND 3, SECOND HALF, on lists of slices: the answer at t goes by the slices in whose reach t lies, and a slice that is put changes
 -- those only within its own reach and that of the one it replaces. Assumes nothing.
 use mathlib.Core.Path.{_≡_, refl, sym, ap, ap₂, _∙_, fun-ext}
-use mathlib.Core.List.{List}
+use mathlib.Core.List.{List, _∷_}
 use mathlib.Core.Bool.{Bool, true, false, _&&_, or-true}
 use mathlib.Core.Option.{some}
 use Rattle.laws.specs.Lists.{kept}
@@ -18,6 +18,7 @@ use Rattle.history.specs.Anchor.{stands, opens, Anchor, based, opened, n
 use Rattle.history.specs.State.{started, appliedAll}
 use Rattle.history.specs.Permanent.{turnOf, turnLess, sameTurn, after, follows, following, unlessWithdrawn, reached, standingFrom, permanentAt}
 use Rattle.history.specs.Snapshot.{valid, sequenceIn, passing, overlaid, snapshotAt}
+use Rattle.history.specs.Source.{lineFrom, line}
 use Rattle.history.specs.Reach.{reaches}
 use Rattle.history.proofs.Periods.{until-reach, holds-reach}
 
@@ -83,6 +84,23 @@ module _ (t : Instant) (slices : List Slice) where
   unfolding passing
   passing-near = ap (sorted sequenceIn lowerSequence sameSequence) (kept-kept (valid t) (reaches t) slices (valid-reaches t))
 
+  line-from-near : (a : Anchor) → lineFrom t near a ≡ lineFrom t slices a
+  line-from-near (based b) = ap (λ ds. b ∷ ds) (following-near (based b))
+  line-from-near (opened o) = ap (λ ds. o ∷ ds) (following-near (opened o))
+  line-from-near nowhere = refl
+  line-from-near two = refl
+
+  line-near : line t near ≡ line t slices
+  unfolding line
+  line-near = line-from-near (anchor t near) ∙ ap (lineFrom t slices) anchor-near
+
+-- slices that agree within reach make the same state, of the same slices in the same order
+pub line-reach : (t : Instant) (rs rs' : List Slice) → kept (reaches t) rs ≡ kept (reaches t) rs' → line t rs ≡ line t rs'
+line-reach t rs rs' p = sym (line-near t rs) ∙ ap (line t) p ∙ line-near t rs'
+
+pub passing-reach : (t : Instant) (ts ts' : List Slice) → kept (reaches t) ts ≡ kept (reaches t) ts' → passing t ts ≡ passing t ts'
+passing-reach t ts ts' q = sym (passing-near t ts) ∙ ap (passing t) q ∙ passing-near t ts'
+
 pub permanent-reach : (t : Instant) (rs rs' : List Slice) → kept (reaches t) rs ≡ kept (reaches t) rs' → permanentAt t rs ≡ permanentAt t rs'
 permanent-reach t rs rs' p = sym (permanent-near t rs) ∙ ap (permanentAt t) p ∙ permanent-near t rs'
 
@@ -90,7 +108,7 @@ pub snapshot-reach : (t : Instant) (rs rs' ts ts' : List Slice) → kept (reache
     → snapshotAt t rs ts ≡ snapshotAt t rs' ts'
 unfolding snapshotAt
 snapshot-reach t rs rs' ts ts' p q =
-    ap₂ overlaid (sym (passing-near t ts) ∙ ap (passing t) q ∙ passing-near t ts') (permanent-reach t rs rs' p)
+    ap₂ overlaid (passing-reach t ts ts' q) (permanent-reach t rs rs' p)
 
 -- ---- a slice that is put
 pub put-reach : (t : Instant) (s : Slice) (slices : List Slice) → reaches t s ≡ false

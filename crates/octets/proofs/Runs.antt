@@ -10,12 +10,8 @@ use lib.Seq.{ext-getD, getD-drop}
 use lib.Dec.{leb, ltb, eqb}
 use borrow.Author.Tests.{le-leb, eq-eqb, leb-true, eqb-true, eqb-false}
 use Rattle.laws.proofs.Tests.{tests, iff, by-test, and-both}
-use Rattle.octets.specs.Bytes.{byteOf, digits, each, there, leOf, filled, sameBytes}
+use Rattle.octets.specs.Bytes.{byteOf, Bytes, digits, each, there, leOf, filled, sameBytes}
 use Rattle.octets.proofs.Readers.{le-whole, digits-below}
-
--- what the elements of a list of bytes are
-abbrev pub Bytes : List ℕ → Type 0
-Bytes s = (i : ℕ) → byteOf s i < 256
 
 -- ---- runs
 -- one run and the next

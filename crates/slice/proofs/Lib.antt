@@ -2,6 +2,7 @@
 pub mod Keys
 pub mod Times
 pub mod View
+pub mod Replies
 pub mod Stages
 pub mod Sound
 pub mod OneAnswer

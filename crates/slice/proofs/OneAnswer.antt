@@ -2,6 +2,7 @@
 use mathlib.Core.Path.{refl}
 use Rattle.laws.specs.OneAnswer.{OneAnswer}
 use Rattle.laws.proofs.OneAnswer.{same}
+use Rattle.slice.proofs.Replies.{checked-told}
 use Rattle.slice.proofs.check.number_of.Kinds as number-of-k
 use Rattle.slice.proofs.check.number_of.Reads as number-of
 use Rattle.slice.proofs.check.check_record.Kinds as check-record-k
@@ -33,10 +34,10 @@ pub number-of-one : OneAnswer number-of-k.ps number-of-k.r number-of.Asked numbe
 number-of-one κs a = (tt, λ z z' ws ws' p q. (same p q, refl))
 
 pub check-record-one : OneAnswer check-record-k.ps check-record-k.r check-record.Asked check-record.Learnt
-check-record-one κs a = (tt, λ z z' ws ws' p q. (same p q, refl))
+check-record-one κs a = (tt, λ z z' ws ws' p q. (checked-told z z' (same p q), refl))
 
 pub check-slice-one : OneAnswer check-slice-k.ps check-slice-k.r check-slice.Asked check-slice.Learnt
-check-slice-one κs a = (tt, λ z z' ws ws' p q. (same p q, refl))
+check-slice-one κs a = (tt, λ z z' ws ws' p q. (checked-told z z' (same p q), refl))
 
 pub Key-precedes-one : OneAnswer Key-precedes-k.ps Key-precedes-k.r Key-precedes.Asked Key-precedes.Learnt
 Key-precedes-one κs a = (tt, λ z z' ws ws' p q. (same p q, refl))

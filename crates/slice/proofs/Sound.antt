@@ -10,24 +10,27 @@ use lib.Seq.{take-at, drop-at}
 use lib.Dec.{eqb, ltb}
 use borrow.Author.Tests.{not-false, eqb-true, eq-eqb, ltb-true, lt-ltb}
 use Rattle.laws.specs.Lists.{any}
-use Rattle.laws.specs.Refusals.{test}
+use Rattle.laws.specs.Refusals.{test, Passed, FirstFails}
 use Rattle.laws.proofs.Tests.{tests, iff, and-both}
-use Rattle.laws.proofs.Refusals.{Passed, FirstFails, answer-given, number-given, given-passed, given-number}
+use Rattle.laws.proofs.Refusals.{answer-given, number-given, given-passed, given-number}
+use Rattle.laws.proofs.Replies.{refusal-apart, refusal-tells}
 use Rattle.octets.specs.Bytes.{filled}
 use Rattle.octets.proofs.Runs.{same-bytes, bytes-same}
 use Rattle.property.specs.Eight.{breaks}
 use Rattle.slice.specs.Record.{ofSide, recordSize, sliceSize, kindOf, flagsOf, cancelledOf, partsOf, viewOf}
 use Rattle.slice.specs.Rules.{timesRight, contentRight}
-use Rattle.slice.specs.Check.{numberOf, refused, reservedClear, emptied, countedTests, recordTests, sliceTests, checkRecord, checkSlice}
+use Rattle.slice.specs.Check.{checkedReply, refused, reservedClear, emptied, countedTests, recordTests, sliceTests, checkRecord, checkSlice}
 use Rattle.slice.specs.declared.check.Checked.the-variants.{Sound}
 use Rattle.slice.proofs.Stages.{record-is, slice-is}
 
 -- ---- the answers of the check are told apart by their numbers
 pub refused-apart : (n : ℕ) → refused n ≡ Sound → ⊥
-refused-apart n e = let z : _≡_ {A = ℕ} 0 1 = cc in omega arith
+unfolding checkedReply
+refused-apart n e = refusal-apart n 1 0 (ap checkedReply e)
 
 pub refused-tells : (m n : ℕ) → refused m ≡ refused n → m ≡ n
-refused-tells m n e = ap numberOf e
+unfolding checkedReply
+refused-tells m n e = refusal-tells m n (ap checkedReply e)
 
 -- a slice is refused with the number of the first test that it fails, and with no other
 pub slice-refused : (stride : ℕ) (feature : List ℕ) (side : ℕ) (s : List ℕ) (n : ℕ)

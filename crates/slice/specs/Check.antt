@@ -6,18 +6,28 @@ use lib.ListN.{length, take, drop}
 use lib.Dec.{eqb, ltb}
 use Rattle.laws.specs.Lists.{any}
 use Rattle.laws.specs.Refusals.{Test, test, refuse}
+use Rattle.laws.specs.Replies.{Reply, refusedWith, acceptedAs, refusalNumber}
 use Rattle.octets.specs.Bytes.{filled, sameBytes}
 use Rattle.numbers.specs.Numbers.{numbers}
 use Rattle.property.specs.Eight.{breaks, eight}
 use Rattle.slice.specs.Record.{ofSide, recordSize, sliceSize, kindOf, flagsOf, cancelledOf, partsOf, viewOf}
 use Rattle.slice.specs.Rules.{baselineTimes, permdeltaTimes, tempdeltaTimes, timesOf, timesRight, contentOf, contentRight}
+use Rattle.slice.specs.declared.check.Refusal.{Refusal}
 use Rattle.slice.specs.declared.check.Checked.{Checked}
 use Rattle.slice.specs.declared.check.Checked.the-variants.{Sound, Refused}
 
--- the number that each answer stands for: a refusal's own, and 0 where nothing is refused
+-- a refusal, in numbers
+abbrev pub refusalReply : Refusal → Reply
+refusalReply f = refusedWith (f .number)
+
+-- what a check returns, in numbers: nothing is refused, 1
+unfoldable pub checkedReply : Checked → Reply
+checkedReply Sound = acceptedAs 1 0
+checkedReply (Refused f) = refusalReply f
+
+-- the number of a refusal, and 0 where nothing is refused
 abbrev pub numberOf : Checked → ℕ
-numberOf Sound = 0
-numberOf (Refused f) = f .number
+numberOf c = refusalNumber (checkedReply c)
 
 abbrev pub refused : ℕ → Checked
 refused n = Refused (record { number = n })
@@ -62,5 +72,5 @@ checkSlice stride feature side s = refuse refused (sliceTests stride feature sid
 
 -- `unfolding checking` opens every definition that the check computes by
 unfoldable pub checking : Unit {0}
-unfolding reservedClear emptied countedTests recordTests sliceTests checkRecord checkSlice numbers ofSide viewOf baselineTimes permdeltaTimes tempdeltaTimes timesOf timesRight contentOf contentRight sameBytes eight
+unfolding reservedClear emptied countedTests recordTests sliceTests checkRecord checkSlice checkedReply numbers ofSide viewOf baselineTimes permdeltaTimes tempdeltaTimes timesOf timesRight contentOf contentRight sameBytes eight
 checking = tt

@@ -5,7 +5,7 @@ ghost use lib.Dec.{eqb};
 ghost use lib.ListN.{length};
 ghost use Rattle.laws.specs.Refusals.{refuse};
 ghost use Rattle.slice.specs.Record.{recordSize};
-ghost use Rattle.slice.specs.Check.{numberOf, refused, reservedClear, emptied, countedTests, checkRecord, checkSlice};
+ghost use Rattle.slice.specs.Check.{checkedReply, numberOf, refused, reservedClear, emptied, countedTests, checkRecord, checkSlice};
 use crate::record::is_cancelled;
 use crate::record::life_of;
 use crate::record::period_of;
@@ -101,7 +101,7 @@ fn check_counted(record: &[u8], stride: usize) -> Checked
 // Rules 11 to 16, on a record of `stride` bytes a property, against a side. Bytes that are no such
 // record are refused with 9.
 pub fn check_record(record: &[u8], stride: usize, side: u8) -> Checked
-    ensures { λ r. ⌜ r ≡ checkRecord stride side (now («record» .entry)) ⌝ }
+    ensures { λ r. ⌜ checkedReply r ≡ checkedReply (checkRecord stride side (now («record» .entry))) ⌝ }
 {
     if !is_sized(record, 32, stride) {
         return refuse_with(9);
@@ -124,7 +124,7 @@ pub fn check_record(record: &[u8], stride: usize, side: u8) -> Checked
 // The slice check, rules 9 to 16, on a delivered slice of `stride` bytes a property, against a feature
 // and a side.
 pub fn check_slice(slice: &[u8], stride: usize, feature: &[u8], side: u8) -> Checked
-    ensures { λ r. ⌜ r ≡ checkSlice stride (now (feature .entry)) side (now (slice .entry)) ⌝ }
+    ensures { λ r. ⌜ checkedReply r ≡ checkedReply (checkSlice stride (now (feature .entry)) side (now (slice .entry))) ⌝ }
 {
     if !is_sized(slice, 48, stride) {
         return refuse_with(9);

@@ -11,8 +11,8 @@ use lib.ListN.{length, take, drop, getD}
 use borrow.Author.Tests.{le-ltb}
 use Rattle.laws.specs.Lists.{kept}
 use Rattle.laws.specs.Keyed.{In, sorted}
-use Rattle.laws.specs.Refusals.{Test, test, refuse}
-use Rattle.laws.proofs.Refusals.{Passed, refuse-join, passed-join, passed-split, passed-answer, answer-given, given-passed}
+use Rattle.laws.specs.Refusals.{Test, test, refuse, Passed}
+use Rattle.laws.proofs.Refusals.{refuse-join, passed-join, passed-split, passed-answer, answer-given, given-passed}
 use Rattle.octets.specs.Bytes.{sameBytes}
 use Rattle.octets.proofs.Runs.{bytes-same}
 use Rattle.numbers.specs.Numbers.{isNone, lowerSequence, sameSequence}
@@ -31,8 +31,8 @@ use Rattle.history.specs.Snapshot.{valid, sequenceIn, passing, overlaid, snapsh
 use Rattle.history.specs.Source.{line, mentions, lastMention}
 use Rattle.history.proofs.Parts.{orElse, last-in, last-or, saidIn, applied-property, line-property, applied-length, passing-in}
 use Rattle.history.proofs.Line.{line-in, known-line, applied-within, line-within}
-use Rattle.state.specs.Written.{nilUnknown, propertyBytes, stateRecord}
-use Rattle.state.specs.Asking.{slicesOf, permanentTests, bothTests, writingTests, askingTests, refusedOutcome, outcomeOf, permanentStateOf, snapshotOf, buffered, afterState, afterSnapshot, refusedPlace, placed, placeAt, placeOf}
+use Rattle.state.specs.Written.{propertyBytes, stateRecord}
+use Rattle.state.specs.Asking.{slicesOf, permanentTests, bothTests, writingTests, askingTests, refusedOutcome, outcomeOf, permanentStateOf, snapshotOf, buffered, afterState, afterSnapshot, refusedPlace, placed, placeAt, placeOf, Tells}
 use Rattle.state.specs.declared.answer.Outcome.{Outcome}
 use Rattle.state.specs.declared.answer.Outcome.the-variants as outcome
 use Rattle.state.specs.declared.question.Place.{Place}
@@ -64,13 +64,6 @@ module _ (p t : List ℕ) (at : Instant) where
       record { permanent = tests-sound Permanent p a; temporary = tests-sound Temporary t b; tables = tables; instant = i; standing = w }
 
 -- ---- each property of a snapshot is the part that the property question tells of
--- the bytes b are those at a place
-abbrev pub Tells : List ℕ → List ℕ → List ℕ → Place → Type 0
-Tells p t b (place.Permanent k) = b ≡ take (strideOf p) (drop k p)
-Tells p t b (place.Temporary k) = b ≡ take (strideOf t) (drop k t)
-Tells p t b place.Unmentioned = b ≡ nilUnknown (strideOf p)
-Tells p t b (place.Refused f) = ⊥
-
 module _ (p t : List ℕ) (at : Instant) (a : Answered p t at) where
   abbrev temporaries : List Slice
   temporaries = passing at (slicesOf t)

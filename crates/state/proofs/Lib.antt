@@ -10,8 +10,10 @@ pub mod Settled
 pub mod Surveyed
 pub mod Filled
 pub mod Pasting
-pub mod Reach
 pub mod Placed
+pub mod Handed
+pub mod Reach
+pub mod Replies
 pub mod Stages
 pub mod Agrees
 pub mod Refused

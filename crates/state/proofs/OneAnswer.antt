@@ -4,6 +4,7 @@ use mathlib.Core.Path.{refl}
 use Rattle.laws.specs.OneAnswer.{OneAnswer}
 use Rattle.laws.specs.OneAnswer.{OneAnswerAs, shown}
 use Rattle.laws.proofs.OneAnswer.{same, both}
+use Rattle.state.proofs.Replies.{outcome-told, place-told, source-told}
 use Rattle.state.proofs.answer.permanent_state.Kinds as permanent-state-k
 use Rattle.state.proofs.answer.state_at.Kinds as state-at-k
 use Rattle.state.proofs.answer.permanent_state.Reads as permanent-state
@@ -18,19 +19,34 @@ use Rattle.state.proofs.question.property.Kinds as property-k
 use Rattle.state.proofs.question.property.Reads as property
 
 pub permanent-state-one : OneAnswer permanent-state-k.ps permanent-state-k.r permanent-state.Asked permanent-state.Learnt
-permanent-state-one κs a = (tt, λ z z' ws ws' p q. (same (p .0) (q .0), both refl (both refl (both (same (rw (p .0) at (p .1)) (rw (q .0) at (q .1))) refl))))
+permanent-state-one κs a = (
+  tt,
+  λ z z' ws ws' p q.
+      let e = outcome-told z z' (same (p .0) (q .0)) in
+      (e, both refl (both refl (both (same (rw e at (p .1)) (q .1)) refl))),
+)
 
 pub state-at-one : OneAnswer state-at-k.ps state-at-k.r state-at.Asked state-at.Learnt
-state-at-one κs a = (tt, λ z z' ws ws' p q. (same (p .0) (q .0), both refl (both refl (both (same (rw (p .0) at (p .1)) (rw (q .0) at (q .1))) refl))))
+state-at-one κs a = (
+  tt,
+  λ z z' ws ws' p q.
+      let e = outcome-told z z' (same (p .0) (q .0)) in
+      (e, both refl (both refl (both (same (rw e at (p .1)) (q .1)) refl))),
+)
 
 pub snapshot-one : OneAnswer snapshot-k.ps snapshot-k.r snapshot.Asked snapshot.Learnt
-snapshot-one κs a = (tt, λ z z' ws ws' p q. (same (p .0) (q .0), both refl (both refl (both refl (both (same (rw (p .0) at (p .1)) (rw (q .0) at (q .1))) refl)))))
+snapshot-one κs a = (
+  tt,
+  λ z z' ws ws' p q.
+      let e = outcome-told z z' (same (p .0) (q .0)) in
+      (e, both refl (both refl (both refl (both (same (rw e at (p .1)) (q .1)) refl)))),
+)
 
 pub locate-one : OneAnswer locate-k.ps locate-k.r locate.Asked locate.Learnt
-locate-one κs a = (tt, λ z z' ws ws' p q. (same p q, refl))
+locate-one κs a = (tt, λ z z' ws ws' p q. (place-told z z' (same p q), refl))
 
 pub source-of-one : OneAnswer source-of-k.ps source-of-k.r source-of.Asked source-of.Learnt
-source-of-one κs a = (tt, λ z z' ws ws' p q. (same p q, refl))
+source-of-one κs a = (tt, λ z z' ws ws' p q. (source-told z z' (same p q), refl))
 
 pub property-one : OneAnswerAs property-k.ps property-k.r (λ κs. shown) property.Asked property.Learnt
 property-one κs a = (tt, λ z z' ws ws' p q. (same p q, refl))

@@ -13,12 +13,12 @@ use lib.Dec.{ltb, eqb}
 use borrow.Author.Tests.{lt-ltb}
 use Rattle.laws.specs.Lists.{first}
 use Rattle.laws.specs.Keyed.{In, Rising}
-use Rattle.laws.specs.Refusals.{Test, refuse}
+use Rattle.laws.specs.Refusals.{Test, refuse, Passed}
 use Rattle.laws.proofs.Tests.{tests, pick-ind, by-test, or-neither}
 use Rattle.laws.proofs.Lists.{in-at, part-of}
 use Rattle.laws.proofs.Pieces.{piece-within}
 use Rattle.laws.proofs.Places.{first-rising}
-use Rattle.laws.proofs.Refusals.{Passed, passed-split, answer-given}
+use Rattle.laws.proofs.Refusals.{passed-split, answer-given}
 use Rattle.numbers.specs.Numbers.{isNone}
 use Rattle.numbers.specs.declared.Instant.{Instant}
 use Rattle.slice.specs.Record.{recordSize, keyOf, keyLess, sameKey, unmentioned, Slice}

@@ -23,11 +23,15 @@ use Rattle.table.proofs.Kept.{same-feature}
 use Rattle.table.proofs.Arrived.{arrival-alike, arrival-tests, arrival-records}
 use Rattle.history.specs.Counted.{sliceKey}
 use Rattle.history.specs.Permanent.{permanentAt}
-use Rattle.history.specs.Snapshot.{snapshotAt}
+use Rattle.history.specs.Snapshot.{passing, snapshotAt}
+use Rattle.history.specs.Source.{line, lastMention}
 use Rattle.history.specs.Reach.{reaches}
-use Rattle.history.proofs.Reach.{permanent-reach, snapshot-reach, put-reach}
-use Rattle.state.specs.Asking.{slicesOf, permanentTests, bothTests, misfits, writingTests, refusedOutcome, outcomeOf, permanentStateOf, snapshotOf, buffered, afterState, afterSnapshot}
+use Rattle.history.proofs.Reach.{line-reach, passing-reach, permanent-reach, snapshot-reach, put-reach}
+use Rattle.state.specs.Asking.{slicesOf, permanentTests, bothTests, misfits, writingTests, askingTests, refusedOutcome, outcomeOf, permanentStateOf, snapshotOf, buffered}
+use Rattle.state.specs.Reach.{Reached, SameState, SameSnapshot, SameProperty}
+use Rattle.state.specs.declared.question.Source.the-variants as source
 use Rattle.state.proofs.Slices.{view-key, view-put, view-stored}
+use Rattle.state.proofs.Handed.{sourceAt, saidAt, source-by, said-by}
 
 -- ---- an instant, a table, and a slice that arrives
 module _ (at : Instant) (t s : List ℕ) where
@@ -37,18 +41,14 @@ module _ (at : Instant) (t s : List ℕ) where
   abbrev view : List ℕ → Slice
   view = viewOf (strideOf t)
 
-  -- the instant lies in the reach of the slice, or of the stored record of its kind and sequence number
-  abbrev pub Reached : Type 0
-  Reached = (reaches at (view (recordOf s)) ≡ true) ⊎ ((x : List ℕ) × (storedOf (recordOf s) records ≡ some x) × (reaches at (view x) ≡ true))
-
-  -- it lies in neither
+  -- the instant lies in neither reach
   abbrev pub Outside : Type 0
   Outside = (reaches at (view (recordOf s)) ≡ false) × ((x : List ℕ) → storedOf (recordOf s) records ≡ some x → reaches at (view x) ≡ false)
 
-  reached-or : Reached ⊎ Outside
+  reached-or : Reached at t s ⊎ Outside
   reached-or = by-test (reaches at (view (recordOf s))) (λ y. inl (inl y)) (λ n. go n (storedOf (recordOf s) records) refl)
     where
-      go : reaches at (view (recordOf s)) ≡ false → (o : Option (List ℕ)) → storedOf (recordOf s) records ≡ o → Reached ⊎ Outside
+      go : reaches at (view (recordOf s)) ≡ false → (o : Option (List ℕ)) → storedOf (recordOf s) records ≡ o → Reached at t s ⊎ Outside
       go n none e = inr (n, λ x q. absurd (Option·none-ne-some x (sym e ∙ q)))
       go n (some y) e =
           by-test (reaches at (view y)) (λ h. inl (inr (y, e, h)))
@@ -85,68 +85,73 @@ as-arrived sides at t s out = record {
   near = near-same at t s out;
 }
 
--- ---- the answer and the buffer
--- two permanent tables
-module _ (at : Instant) (buffer p p' : List ℕ) where
-  -- the permanent state is answered alike and leaves the same bytes
-  abbrev pub SameState : Type 0
-  SameState =
-      (permanentStateOf p' at buffer ≡ permanentStateOf p at buffer)
-      × (afterState (permanentStateOf p' at buffer) p' at buffer ≡ afterState (permanentStateOf p at buffer) p at buffer)
+-- ---- the answers, and the buffer
+module _ (at : Instant) (p p' : List ℕ) (a : AsBefore Permanent at p p') where
+  -- the permanent state
+  standing : permanentAt at (slicesOf p') ≡ permanentAt at (slicesOf p)
+  standing = permanent-reach at (slicesOf p') (slicesOf p) (a .near)
 
-  same-state : AsBefore Permanent at p p' → SameState
+  same-state : (buffer : List ℕ) → SameState at p p' buffer
   unfolding permanentStateOf permanentTests misfits
-  same-state a = (answer, λ i. buffered (answer i) (strideOf p) at (standing i) buffer)
+  same-state buffer = (answer, λ i. buffered (answer i) (strideOf p) at (standing i) buffer)
     where
-      standing : permanentAt at (slicesOf p') ≡ permanentAt at (slicesOf p)
-      standing = permanent-reach at (slicesOf p') (slicesOf p) (a .near)
-
       answer : permanentStateOf p' at buffer ≡ permanentStateOf p at buffer
       answer i = refuse refusedOutcome (a .tests i ++ writingTests p at buffer) (outcomeOf (standing i))
 
-  -- two temporary tables
-  module _ (t t' : List ℕ) where
-    -- so is the snapshot
-    abbrev pub SameSnapshot : Type 0
-    SameSnapshot =
-        (snapshotOf p' t' at buffer ≡ snapshotOf p t at buffer)
-        × (afterSnapshot (snapshotOf p' t' at buffer) p' t' at buffer ≡ afterSnapshot (snapshotOf p t at buffer) p t at buffer)
+  module _ (t t' : List ℕ) (b : AsBefore Temporary at t t') where
+    same-tests : bothTests p' t' ≡ bothTests p t
+    unfolding bothTests permanentTests
+    same-tests i = a .tests i ++ (b .tests i ++ (test 8 (not (sameBytes (a .feature i) (b .feature i))) ∷ []))
 
-    same-snapshot : AsBefore Permanent at p p' → AsBefore Temporary at t t' → SameSnapshot
-    unfolding snapshotOf bothTests permanentTests misfits
-    same-snapshot a b = (answer, λ i. buffered (answer i) (strideOf p) at (standing i) buffer)
+    -- the snapshot
+    same-snapshot : (buffer : List ℕ) → SameSnapshot at p p' t t' buffer
+    unfolding snapshotOf misfits
+    same-snapshot buffer = (answer, λ i. buffered (answer i) (strideOf p) at (snapshot i) buffer)
       where
-        standing : snapshotAt at (slicesOf p') (slicesOf t') ≡ snapshotAt at (slicesOf p) (slicesOf t)
-        standing = snapshot-reach at (slicesOf p') (slicesOf p) (slicesOf t') (slicesOf t) (a .near) (b .near)
+        snapshot : snapshotAt at (slicesOf p') (slicesOf t') ≡ snapshotAt at (slicesOf p) (slicesOf t)
+        snapshot = snapshot-reach at (slicesOf p') (slicesOf p) (slicesOf t') (slicesOf t) (a .near) (b .near)
 
         answer : snapshotOf p' t' at buffer ≡ snapshotOf p t at buffer
-        answer i =
-            refuse refusedOutcome
-            ((a .tests i ++ (b .tests i ++ (test 8 (not (sameBytes (a .feature i) (b .feature i))) ∷ []))) ++ writingTests p at buffer)
-            (outcomeOf (standing i))
+        answer i = refuse refusedOutcome (same-tests i ++ writingTests p at buffer) (outcomeOf (snapshot i))
+
+    -- property n: from the same table, and the same bytes
+    same-property : (n : ℕ) → SameProperty at p p' t t' n
+    same-property n = (
+      source-by p' t' at n ∙ (λ i. refuse (λ k. source.Refused (record { number = k })) (asked i) (sourceAt (over i) (under i) (standing i))) ∙ sym (source-by p t at n),
+      said-by p' t' at n ∙ (λ i. refuse (λ k. []) (asked i) (saidAt (strideOf p) n (over i) (under i) (standing i))) ∙ sym (said-by p t at n),
+    )
+      where
+        asked : bothTests p' t' ++ askingTests at n ≡ bothTests p t ++ askingTests at n
+        asked i = same-tests i ++ askingTests at n
+
+        over : lastMention n (passing at (slicesOf t')) ≡ lastMention n (passing at (slicesOf t))
+        over = ap (lastMention n) (passing-reach at (slicesOf t') (slicesOf t) (b .near))
+
+        under : lastMention n (line at (slicesOf p')) ≡ lastMention n (line at (slicesOf p))
+        under = ap (lastMention n) (line-reach at (slicesOf p') (slicesOf p) (a .near))
 
 -- ---- OUTSIDE REACH nothing changes, and so what changes lies in reach
 within : (at : Instant) (t s : List ℕ) {A : Type 0} → (Outside at t s → A) → (A → ⊥) → Reached at t s
 within at t s same differs = ⊎-elim (λ r. r) (λ out. absurd (differs (same out))) (reached-or at t s)
 
-module _ (at : Instant) (buffer p s : List ℕ) where
-  pub state-outside : Outside at p s → SameState at buffer p (arrivedAt p s)
-  state-outside out = same-state at buffer p (arrivedAt p s) (as-arrived Permanent at p s out)
+module _ (at : Instant) (p s : List ℕ) where
+  pub state-changed : (buffer : List ℕ) → (SameState at p (arrivedAt p s) buffer → ⊥) → Reached at p s
+  state-changed buffer = within at p s (λ out. same-state at p (arrivedAt p s) (as-arrived Permanent at p s out) buffer)
 
-  pub state-changed : (SameState at buffer p (arrivedAt p s) → ⊥) → Reached at p s
-  state-changed = within at p s state-outside
-
-module _ (at : Instant) (buffer p t s : List ℕ) where
   -- the slice arrives at the permanent table
-  pub permanent-outside : Outside at p s → SameSnapshot at buffer p (arrivedAt p s) t t
-  permanent-outside out = same-snapshot at buffer p (arrivedAt p s) t t (as-arrived Permanent at p s out) (as-itself Temporary at t)
+  module _ (t : List ℕ) where
+    pub permanent-changed : (buffer : List ℕ) → (SameSnapshot at p (arrivedAt p s) t t buffer → ⊥) → Reached at p s
+    permanent-changed buffer =
+        within at p s (λ out. same-snapshot at p (arrivedAt p s) (as-arrived Permanent at p s out) t t (as-itself Temporary at t) buffer)
 
-  pub permanent-changed : (SameSnapshot at buffer p (arrivedAt p s) t t → ⊥) → Reached at p s
-  permanent-changed = within at p s permanent-outside
+    pub permanent-property : (n : ℕ) → (SameProperty at p (arrivedAt p s) t t n → ⊥) → Reached at p s
+    permanent-property n = within at p s (λ out. same-property at p (arrivedAt p s) (as-arrived Permanent at p s out) t t (as-itself Temporary at t) n)
 
-  -- it arrives at the temporary table
-  pub temporary-outside : Outside at t s → SameSnapshot at buffer p p t (arrivedAt t s)
-  temporary-outside out = same-snapshot at buffer p p t (arrivedAt t s) (as-itself Permanent at p) (as-arrived Temporary at t s out)
+-- it arrives at the temporary table
+module _ (at : Instant) (p t s : List ℕ) where
+  pub temporary-changed : (buffer : List ℕ) → (SameSnapshot at p p t (arrivedAt t s) buffer → ⊥) → Reached at t s
+  temporary-changed buffer =
+      within at t s (λ out. same-snapshot at p p (as-itself Permanent at p) t (arrivedAt t s) (as-arrived Temporary at t s out) buffer)
 
-  pub temporary-changed : (SameSnapshot at buffer p p t (arrivedAt t s) → ⊥) → Reached at t s
-  temporary-changed = within at t s temporary-outside
+  pub temporary-property : (n : ℕ) → (SameProperty at p p t (arrivedAt t s) n → ⊥) → Reached at t s
+  temporary-property n = within at t s (λ out. same-property at p p (as-itself Permanent at p) t (arrivedAt t s) (as-arrived Temporary at t s out) n)

@@ -1,6 +1,7 @@
 -- The questions about an instant: their refusals in order, and their answers (document 01, "Refusal numbers" and "State at an
 -- instant t"). Assumes nothing.
 use Prim.Native.Nat.{ℕ, _+_, _*_}
+use mathlib.Core.Path.{_≡_}
 use mathlib.Core.Bool.{Bool, not, _||_}
 use mathlib.Core.List.{List, [], _∷_, _++_, map}
 use mathlib.Core.Option.{Option, none, some}
@@ -9,11 +10,12 @@ use lib.Dec.{eqb, ltb}
 use denote.Ref.{RefT}
 use Rattle.laws.specs.Lists.{first}
 use Rattle.laws.specs.Refusals.{Test, test, refuse}
+use Rattle.laws.specs.Replies.{Reply, acceptedAs}
 use Rattle.octets.specs.Bytes.{sameBytes}
 use Rattle.numbers.specs.Numbers.{isNone}
 use Rattle.numbers.specs.declared.Instant.{Instant}
 use Rattle.slice.specs.Record.{recordSize, keyOf, sameKey, Slice, viewOf}
-use Rattle.slice.specs.Check.{refused}
+use Rattle.slice.specs.Check.{refusalReply, refused}
 use Rattle.slice.specs.declared.check.Checked.{Checked}
 use Rattle.slice.specs.declared.check.Checked.the-variants.{Sound}
 use Rattle.table.specs.Header.{featureOf, strideOf, recordsOf}
@@ -23,7 +25,7 @@ use Rattle.history.specs.Counted.{sliceKey}
 use Rattle.history.specs.Permanent.{Standing, refuses, known, permanentAt}
 use Rattle.history.specs.Snapshot.{passing, snapshotAt, instants}
 use Rattle.history.specs.Source.{line, mentions, lastMention}
-use Rattle.state.specs.Written.{stateRecord}
+use Rattle.state.specs.Written.{nilUnknown, stateRecord}
 use Rattle.state.specs.declared.answer.Outcome.{Outcome}
 use Rattle.state.specs.declared.answer.Outcome.the-variants as outcome
 use Rattle.state.specs.declared.question.Place.{Place}
@@ -78,6 +80,11 @@ unfoldable pub snapshotOf : List ℕ → List ℕ → Instant → List ℕ → O
 snapshotOf p t at buffer =
     refuse refusedOutcome (bothTests p t ++ writingTests p at buffer) (outcomeOf (snapshotAt at (slicesOf p) (slicesOf t)))
 
+-- in numbers: written, 1
+unfoldable pub outcomeReply : Outcome → Reply
+outcomeReply outcome.Written = acceptedAs 1 0
+outcomeReply (outcome.Refused f) = refusalReply f
+
 -- the lent buffer after an answer: the record of the state, or as it was
 abbrev pub recordOf : ℕ → Instant → Standing → List ℕ → List ℕ
 recordOf stride at (refuses n) buffer = buffer
@@ -115,6 +122,13 @@ placeAt p t at n (known s) = placed p t n (lastMention n (passing at (slicesOf t
 unfoldable pub placeOf : List ℕ → List ℕ → Instant → ℕ → Place
 placeOf p t at n = refuse refusedPlace (bothTests p t ++ askingTests at n) (placeAt p t at n (permanentAt at (slicesOf p)))
 
+-- in numbers: in the permanent table, 1, and where it begins; in the temporary one, 2, and where it begins; unmentioned, 3
+unfoldable pub placeReply : Place → Reply
+placeReply (place.Permanent at) = acceptedAs 1 at
+placeReply (place.Temporary at) = acceptedAs 2 at
+placeReply place.Unmentioned = acceptedAs 3 0
+placeReply (place.Refused f) = refusalReply f
+
 -- the refusal, "unmentioned", or which table
 abbrev pub sourceOf : Place → Source
 sourceOf (place.Permanent n) = source.Permanent
@@ -122,18 +136,40 @@ sourceOf (place.Temporary n) = source.Temporary
 sourceOf place.Unmentioned = source.Unmentioned
 sourceOf (place.Refused f) = source.Refused f
 
--- what is shown of the part of lent bytes that has n bytes from a place on: where it points, and its bytes
-abbrev pub partOf : RefT (List ℕ) → ℕ → ℕ → (ℕ × ℕ) × List ℕ
-partOf s at n = ((s .ptr .0, at + s .ptr .1), take n (drop at (s .now)))
+-- in numbers: the permanent table, 1; the temporary one, 2; unmentioned, 3
+unfoldable pub sourceReply : Source → Reply
+sourceReply source.Permanent = acceptedAs 1 0
+sourceReply source.Temporary = acceptedAs 2 0
+sourceReply source.Unmentioned = acceptedAs 3 0
+sourceReply (source.Refused f) = refusalReply f
 
--- the part of that table that a place begins; an empty part of the permanent table's front where there is none
+-- the bytes of the property at a place; none where the question is refused or nothing mentions it
+abbrev pub bytesAt : List ℕ → List ℕ → Place → List ℕ
+bytesAt p t (place.Permanent at) = take (strideOf p) (drop at p)
+bytesAt p t (place.Temporary at) = take (strideOf t) (drop at t)
+bytesAt p t place.Unmentioned = []
+bytesAt p t (place.Refused f) = []
+
+-- where a part of lent bytes points that begins at a place in them
+abbrev pub pointsInto : RefT (List ℕ) → ℕ → ℕ × ℕ
+pointsInto s at = (s .ptr .0, at + s .ptr .1)
+
+-- the part that the property question hands back: where it points, and its bytes. Without bytes it is at the permanent table's front
 abbrev pub handed : Place → RefT (List ℕ) → RefT (List ℕ) → (ℕ × ℕ) × List ℕ
-handed (place.Permanent at) p t = partOf p at (strideOf (p .now))
-handed (place.Temporary at) p t = partOf t at (strideOf (t .now))
-handed place.Unmentioned p t = partOf p 0 0
-handed (place.Refused f) p t = partOf p 0 0
+handed (place.Permanent at) p t = (pointsInto p at, bytesAt (p .now) (t .now) (place.Permanent at))
+handed (place.Temporary at) p t = (pointsInto t at, bytesAt (p .now) (t .now) (place.Temporary at))
+handed place.Unmentioned p t = (pointsInto p 0, bytesAt (p .now) (t .now) place.Unmentioned)
+handed (place.Refused f) p t = (pointsInto p 0, bytesAt (p .now) (t .now) (place.Refused f))
+
+-- the bytes b, of a property in a snapshot, are those at the place that the property question tells; nil, unknown where nothing
+-- mentions it
+abbrev pub Tells : List ℕ → List ℕ → List ℕ → Place → Type 0
+Tells p t b (place.Permanent k) = b ≡ bytesAt p t (place.Permanent k)
+Tells p t b (place.Temporary k) = b ≡ bytesAt p t (place.Temporary k)
+Tells p t b place.Unmentioned = b ≡ nilUnknown (strideOf p)
+Tells p t b (place.Refused f) = ⊥
 
 -- `unfolding asking` opens every definition that a question computes by
 unfoldable pub asking : Unit {0}
-unfolding slicesOf permanentTests bothTests checkBoth misfits permanentStateOf stateAtOf snapshotOf placeIn placeOf stateRecord line mentions lastMention instants ruling
+unfolding slicesOf permanentTests bothTests checkBoth misfits permanentStateOf stateAtOf snapshotOf outcomeReply placeIn placeOf placeReply sourceReply stateRecord line mentions lastMention instants ruling
 asking = tt

@@ -1,3 +1,4 @@
 pub mod Written
 pub mod Asking
+pub mod Reach
 pub mod Steps

@@ -6,7 +6,7 @@ ghost use Rattle.slice.specs.Record.{recordSize, keyLess, sameKey};
 ghost use Rattle.table.specs.Header.{countOf, strideOf, roomOf};
 ghost use Rattle.history.specs.Counted.{sliceKey};
 ghost use Rattle.history.specs.Permanent.{permanentAt};
-ghost use Rattle.state.specs.Asking.{slicesOf, checkBoth, permanentStateOf, stateAtOf, snapshotOf, afterState, afterSnapshot};
+ghost use Rattle.state.specs.Asking.{slicesOf, checkBoth, permanentStateOf, stateAtOf, snapshotOf, outcomeReply, afterState, afterSnapshot};
 ghost use Rattle.state.specs.Steps.{leftOf};
 use crate::anchor::Standing;
 use crate::anchor::settle;
@@ -80,7 +80,7 @@ fn write_state(permanent: &[u8], instant: Instant, record: &mut [u8]) -> Outcome
 // it was: 1 to 7 for the table, 19 for no instant, 23 for a record of another size, 21 for two anchors, 20
 // where no state is known, 22 where the feature is withdrawn.
 pub fn permanent_state(permanent: &[u8], instant: Instant, record: &mut [u8]) -> Outcome
-    ensures answer { λ r. ⌜ r ≡ permanentStateOf (now (permanent .entry)) instant (now («record» .entry)) ⌝ }
+    ensures answer { λ r. ⌜ outcomeReply r ≡ outcomeReply (permanentStateOf (now (permanent .entry)) instant (now («record» .entry))) ⌝ }
     ensures buffer { λ r. ⌜ now («record» .exit) ≡ afterState r (now (permanent .entry)) instant (now («record» .entry)) ⌝ }
 {
     if let Checked::Refused(refusal) = check_table(permanent, Sides::Permanent) {
@@ -92,7 +92,7 @@ pub fn permanent_state(permanent: &[u8], instant: Instant, record: &mut [u8]) ->
 // The same of a table that was checked before, for one who asks about many instants: of 1 to 7 only 5 and
 // 7 are looked at again, by which its records are walked.
 pub fn state_at(permanent: &[u8], instant: Instant, record: &mut [u8]) -> Outcome
-    ensures answer { λ r. ⌜ r ≡ stateAtOf (now (permanent .entry)) instant (now («record» .entry)) ⌝ }
+    ensures answer { λ r. ⌜ outcomeReply r ≡ outcomeReply (stateAtOf (now (permanent .entry)) instant (now («record» .entry))) ⌝ }
     ensures buffer { λ r. ⌜ now («record» .exit) ≡ afterState r (now (permanent .entry)) instant (now («record» .entry)) ⌝ }
 {
     if let Checked::Refused(refusal) = check_order(permanent) {
@@ -106,7 +106,7 @@ pub fn state_at(permanent: &[u8], instant: Instant, record: &mut [u8]) -> Outcom
 // for the temporary one, 8 for different features, 19 for no instant, 23 for a record of another size, 21
 // for two anchors, 20 where no state is known, 22 where the feature is withdrawn.
 pub fn snapshot(permanent: &[u8], temporary: &[u8], instant: Instant, record: &mut [u8]) -> Outcome
-    ensures answer { λ r. ⌜ r ≡ snapshotOf (now (permanent .entry)) (now (temporary .entry)) instant (now («record» .entry)) ⌝ }
+    ensures answer { λ r. ⌜ outcomeReply r ≡ outcomeReply (snapshotOf (now (permanent .entry)) (now (temporary .entry)) instant (now («record» .entry))) ⌝ }
     ensures buffer { λ r. ⌜ now («record» .exit) ≡ afterSnapshot r (now (permanent .entry)) (now (temporary .entry)) instant (now («record» .entry)) ⌝ }
 {
     if let Checked::Refused(refusal) = check_both(permanent, temporary) {

@@ -4,7 +4,7 @@ ghost use Prim.Native.Nat.{_≤_, _<_};
 ghost use Rattle.laws.specs.OneAnswer.{shown};
 ghost use Rattle.slice.specs.Record.{recordSize};
 ghost use Rattle.table.specs.Header.{countOf, strideOf, roomOf};
-ghost use Rattle.state.specs.Asking.{placeOf, sourceOf, handed};
+ghost use Rattle.state.specs.Asking.{placeOf, placeReply, sourceOf, sourceReply, handed};
 ghost use Rattle.state.specs.Steps.{placeFrom, placedBy};
 use crate::anchor::Standing;
 use crate::anchor::Start;
@@ -75,7 +75,7 @@ fn placed(
 // instant or a property over 7, 21 for two anchors, 20 where no state is known, 22 where the feature is
 // withdrawn.
 pub fn locate(permanent: &[u8], temporary: &[u8], instant: Instant, property: u8) -> Place
-    ensures { λ r. ⌜ r ≡ placeOf (now (permanent .entry)) (now (temporary .entry)) instant property ⌝ }
+    ensures { λ r. ⌜ placeReply r ≡ placeReply (placeOf (now (permanent .entry)) (now (temporary .entry)) instant property) ⌝ }
 {
     if let Checked::Refused(refusal) = check_both(permanent, temporary) {
         return Place::Refused(refusal);
@@ -100,7 +100,7 @@ pub fn locate(permanent: &[u8], temporary: &[u8], instant: Instant, property: u8
 // Which table has the bytes of a property at an instant, that nothing mentions it, or why there is no
 // answer.
 pub fn source_of(permanent: &[u8], temporary: &[u8], instant: Instant, property: u8) -> Source
-    ensures { λ r. ⌜ r ≡ sourceOf (placeOf (now (permanent .entry)) (now (temporary .entry)) instant property) ⌝ }
+    ensures { λ r. ⌜ sourceReply r ≡ sourceReply (sourceOf (placeOf (now (permanent .entry)) (now (temporary .entry)) instant property)) ⌝ }
 {
     match locate(permanent, temporary, instant, property) {
         Place::Permanent(_) => Source::Permanent,

@@ -1,7 +1,7 @@
 -- DEMAND 3, FIRST HALF: which order slices came in is of no account. Assumes nothing.
 use Prim.Native.Nat.{ℕ, _≤_}
 use mathlib.Core.Path.{_≡_, sym, ap, _∙_}
-use mathlib.Core.List.{List, []}
+use mathlib.Core.List.{List, [], map}
 use mathlib.Core.Bool.{Bool}
 use mathlib.Core.Logic.{_↔_}
 use native.Mathlib.Omega.{arith}
@@ -15,7 +15,7 @@ use Rattle.slice.specs.Record.{recordSize, keyOf, keyLess, sameKey}
 use Rattle.slice.proofs.Keys.{key-order}
 use Rattle.table.specs.Header.{stride1, roomOf, written}
 use Rattle.table.specs.Arriving.{recordOf, creationOf, created}
-use Rattle.table.specs.Deliveries.{deliveredTo, passes, sentTo, correctionNumber, Agree, pairsIn, recordsAfresh, holding, tableAfresh, TableOf}
+use Rattle.table.specs.Deliveries.{deliveredTo, passes, sentTo, Delivers, correctionNumber, Agree, pairsIn, recordsAfresh, holding, tableAfresh, TableOf}
 use Rattle.table.specs.declared.create.Creation.the-variants.{Made}
 use Rattle.table.proofs.Delivered.{deliveries, new-room, new-feature, new-written, new-empty, new-sound}
 
@@ -68,6 +68,29 @@ module _ (buffer : List ℕ) (side : ℕ) (feature : List ℕ) (named : length f
           let (s, n, e) = map-in recordOf (kept test xs) r m in
           let p = kept-in test xs s .0 n in
           rw e (in-map recordOf (kept test ys) s (kept-in test ys s .1 (f s (p .0), p .1)))
+
+  -- THE TABLE OF A SET: any delivery of it makes the table of the set, worked out afresh
+  pub of-set : (set ss : List (List ℕ)) → Delivers feature side set ss → Agree (map recordOf set) → pairsIn (map recordOf set) ≤ roomOf (recordSize stride1) buffer
+      → fed buffer side feature ss ≡ tableAfresh buffer side feature (map recordOf set)
+  unfolding recordsAfresh
+  of-set set ss delivers agree fit =
+      let agree' : Agree (sent feature side ss) = λ x y p q. agree x y (same x .1 p) (same y .1 q) in
+      let fit' : pairsIn (sent feature side ss) ≤ roomOf (recordSize stride1) buffer =
+      rw (← distinct-same keyOf keyLess sameKey key-order (map recordOf set) (sent feature side ss) same) fit in
+      any-order ss agree' fit'
+      ∙ ap (holding buffer side feature) (sym (afresh-same keyOf keyLess sameKey key-order correctionNumber (map recordOf set) (sent feature side ss) same agree))
+    where
+      test : List ℕ → Bool
+      test = passes stride1 feature side
+
+      same : (r : List ℕ) → In r (map recordOf set) ↔ In r (sent feature side ss)
+      same r = (to, from)
+        where
+          to : In r (map recordOf set) → In r (sent feature side ss)
+          to m = let (s, n, e) = map-in recordOf set r m in rw e (in-map recordOf (kept test ss) s (kept-in test ss s .1 (delivers s .0 n)))
+
+          from : In r (sent feature side ss) → In r (map recordOf set)
+          from m = let (s, n, e) = map-in recordOf (kept test ss) r m in rw e (in-map recordOf set s (delivers s .1 (kept-in test ss s .0 n)))
 
 -- WHAT AFRESH MEANS: the records worked out afresh are a table of the set
 pub afresh-is : (set : List (List ℕ)) → TableOf set (recordsAfresh set)

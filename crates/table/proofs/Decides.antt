@@ -1,5 +1,5 @@
 -- The answer of each delivery, as a table of the four accepted answers, 17 and 18. Assumes nothing.
-use Prim.Native.Nat.{ℕ, _<_}
+use Prim.Native.Nat.{ℕ}
 use mathlib.Core.Path.{_≡_, refl, sym, ap, _∙_}
 use mathlib.Core.List.{List}
 use mathlib.Core.Option.{Option, none, some}
@@ -10,31 +10,19 @@ use Rattle.laws.proofs.Places.{none-stored}
 use Rattle.laws.proofs.Put.{rising-one, stored-in, stored-none-in}
 use Rattle.octets.proofs.Runs.{same-bytes, bytes-same}
 use Rattle.numbers.specs.Numbers.{lowerCorrection}
-use Rattle.slice.specs.Record.{recordSize, keyOf, keyLess, sameKey}
+use Rattle.numbers.specs.declared.CorrectionNumber.{CorrectionNumber}
+use Rattle.slice.specs.Record.{recordSize, correctionOf, keyOf, keyLess, sameKey}
 use Rattle.slice.specs.Check.{checkSlice}
 use Rattle.slice.specs.declared.check.Checked.the-variants.{Sound}
 use Rattle.slice.proofs.Keys.{key-order}
 use Rattle.table.specs.Header.{sideOf, featureOf, strideOf, roomOf, recordsOf}
 use Rattle.table.specs.Rules.{checkTable}
-use Rattle.table.specs.Arriving.{refusedArrival, recordOf, storedOf, filingOf, arrivalOf}
-use Rattle.table.specs.Deliveries.{correctionNumber}
+use Rattle.table.specs.Arriving.{recordOf, storedOf, filingOf, arrivalOf}
+use Rattle.table.specs.Deliveries.{Decided}
 use Rattle.table.specs.declared.check.Sides.the-variants.{Both}
-use Rattle.table.specs.declared.arrival.Arrival.{Arrival}
-use Rattle.table.specs.declared.arrival.Arrival.the-variants.{Added, Replaced, Superseded, Repeat}
 use Rattle.table.proofs.Sound.{sound-table, slice-passes}
 use Rattle.table.proofs.Stays.{Up, order-in}
 use Rattle.table.proofs.Answers.{is-replaced, is-superseded, is-repeat, is-17, filing-held, filing-full, filing-new}
-
--- the answer a to a record r that comes to the records rs in a room
-pub record Decided (room : ℕ) (r : List ℕ) (rs : List (List ℕ)) (a : Arrival) : Type 0 where
-  -- no stored record has its kind and sequence
-  pub added : ((x : List ℕ) → In x rs → keyOf x ≡ keyOf r → ⊥) → (length rs ≡ room → ⊥) → a ≡ Added
-  pub full : ((x : List ℕ) → In x rs → keyOf x ≡ keyOf r → ⊥) → length rs ≡ room → a ≡ refusedArrival 18
-  -- x is the stored record of its kind and sequence
-  pub replaced : (x : List ℕ) → In x rs → keyOf x ≡ keyOf r → correctionNumber x < correctionNumber r → a ≡ Replaced
-  pub superseded : (x : List ℕ) → In x rs → keyOf x ≡ keyOf r → correctionNumber r < correctionNumber x → a ≡ Superseded
-  pub repeated : (x : List ℕ) → In x rs → keyOf x ≡ keyOf r → correctionNumber r ≡ correctionNumber x → r ≡ x → a ≡ Repeat
-  pub clash : (x : List ℕ) → In x rs → keyOf x ≡ keyOf r → correctionNumber r ≡ correctionNumber x → (r ≡ x → ⊥) → a ≡ refusedArrival 17
 
 module _ (room : ℕ) (r : List ℕ) (rs : List (List ℕ)) (up : Up rs) where
   new : ((x : List ℕ) → In x rs → keyOf x ≡ keyOf r → ⊥) → storedOf r rs ≡ none
@@ -51,15 +39,18 @@ module _ (room : ℕ) (r : List ℕ) (rs : List (List ℕ)) (up : Up rs) where
           let q = stored-in keyOf keyLess sameKey key-order (keyOf r) rs y p in
           p ∙ ap some (rising-one keyOf keyLess sameKey key-order rs up y x (q .0) m (q .1 ∙ sym e))
 
+  number : (x : List ℕ) → correctionOf r ≡ correctionOf x → correctionOf r .0 ≡ correctionOf x .0
+  number x c = ap (λ (k : CorrectionNumber). k .0) c
+
   decided : Decided room r rs (filingOf room r rs)
   unfolding lowerCorrection
   decided = record {
     added = λ h f. filing-new room r rs (new h) f;
     full = λ h f. filing-full room r rs (new h) f;
-    replaced = λ x m e c. filing-held room r rs x (held x m e) ∙ is-replaced r x (omega tests);
-    superseded = λ x m e c. filing-held room r rs x (held x m e) ∙ is-superseded r x (omega tests) (omega tests);
-    repeated = λ x m e c b. filing-held room r rs x (held x m e) ∙ is-repeat r x (omega tests) (omega tests) (bytes-same r x b);
-    clash = λ x m e c b. filing-held room r rs x (held x m e) ∙ is-17 r x (omega tests) (omega tests) (never _ (λ s. b (same-bytes r x s)));
+    replaced = λ x m e c. filing-held room r rs x (held x m e) ∙ is-replaced r x c;
+    superseded = λ x m e c. filing-held room r rs x (held x m e) ∙ is-superseded r x (omega tests) c;
+    repeated = λ x m e c b. let k = number x c in filing-held room r rs x (held x m e) ∙ is-repeat r x (omega tests) (omega tests) (bytes-same r x b);
+    clash = λ x m e c b. let k = number x c in filing-held room r rs x (held x m e) ∙ is-17 r x (omega tests) (omega tests) (never _ (λ s. b (same-bytes r x s)));
   }
 
 -- THE ANSWERS: where a table passes 1 to 7 and a slice 9 to 16, the answer of the arrival is decided as the table above has it

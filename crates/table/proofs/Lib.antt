@@ -3,6 +3,7 @@ pub mod Walks
 pub mod Search
 pub mod Written
 pub mod Answers
+pub mod Replies
 pub mod Stages
 pub mod Sound
 pub mod Made

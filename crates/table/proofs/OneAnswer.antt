@@ -3,6 +3,8 @@ use mathlib.Core.Path.{refl}
 use Rattle.laws.specs.OneAnswer.{OneAnswer}
 use Rattle.laws.specs.OneAnswer.{OneAnswerAs, shown}
 use Rattle.laws.proofs.OneAnswer.{same, both}
+use Rattle.slice.proofs.Replies.{checked-told}
+use Rattle.table.proofs.Replies.{creation-told, arrival-told}
 use Rattle.table.proofs.header.is_lettered.Kinds as is-lettered-k
 use Rattle.table.proofs.header.is_lettered.Reads as is-lettered
 use Rattle.table.proofs.header.side_of.Kinds as side-of-k
@@ -48,13 +50,23 @@ pub takes-side-one : OneAnswer takes-side-k.ps takes-side-k.r takes-side.Asked t
 takes-side-one κs a = (tt, λ z z' ws ws' p q. (same p q, refl))
 
 pub check-table-one : OneAnswer check-table-k.ps check-table-k.r check-table.Asked check-table.Learnt
-check-table-one κs a = (tt, λ z z' ws ws' p q. (same p q, refl))
+check-table-one κs a = (tt, λ z z' ws ws' p q. (checked-told z z' (same p q), refl))
 
 pub check-order-one : OneAnswer check-order-k.ps check-order-k.r check-order.Asked check-order.Learnt
-check-order-one κs a = (tt, λ z z' ws ws' p q. (same p q, refl))
+check-order-one κs a = (tt, λ z z' ws ws' p q. (checked-told z z' (same p q), refl))
 
 pub new-table-one : OneAnswer new-table-k.ps new-table-k.r new-table.Asked new-table.Learnt
-new-table-one κs a = (tt, λ z z' ws ws' p q. (same (p .0) (q .0), both (same (rw (p .0) at (p .1)) (rw (q .0) at (q .1))) refl))
+new-table-one κs a = (
+  tt,
+  λ z z' ws ws' p q.
+      let e = creation-told z z' (same (p .0) (q .0)) in
+      (e, both (same (rw e at (p .1)) (q .1)) refl),
+)
 
 pub arrive-one : OneAnswer arrive-k.ps arrive-k.r arrive.Asked arrive.Learnt
-arrive-one κs a = (tt, λ z z' ws ws' p q. (same (p .0) (q .0), both (same (rw (p .0) at (p .1)) (rw (q .0) at (q .1))) refl))
+arrive-one κs a = (
+  tt,
+  λ z z' ws ws' p q.
+      let e = arrival-told z z' (same (p .0) (q .0)) in
+      (e, both (same (rw e at (p .1)) (q .1)) refl),
+)

@@ -6,9 +6,9 @@ use mathlib.Core.Bool.{true, false, not}
 use lib.ListN.{length}
 use borrow.Author.Tests.{ltb-false, le-ltb, not-false, eqb-true, eq-eqb}
 use Rattle.laws.specs.Lists.{any}
-use Rattle.laws.specs.Refusals.{Test, refuse}
+use Rattle.laws.specs.Refusals.{Test, refuse, FirstFails}
 use Rattle.laws.proofs.Tests.{and-both}
-use Rattle.laws.proofs.Refusals.{FirstFails, refuse-join, answer-given, given-passed, number-given, given-number}
+use Rattle.laws.proofs.Refusals.{refuse-join, answer-given, given-passed, number-given, given-number}
 use Rattle.octets.specs.Bytes.{filled}
 use Rattle.slice.specs.Record.{recordSize}
 use Rattle.slice.specs.Check.{refused, sliceTests, checkSlice}

@@ -9,9 +9,8 @@ use lib.Seq.{drop-drop, drop-cons, take-add}
 use Rattle.laws.specs.Lists.{pieces, joined, insertedAt, replacedAt}
 use Rattle.laws.proofs.Lists.{length-pieces, take-past, drop-past, inserted-length, replaced-length}
 use Rattle.laws.proofs.Pieces.{joined-append, joined-pieces, take-pieces, drop-pieces}
-use Rattle.octets.specs.Bytes.{byteOf}
+use Rattle.octets.specs.Bytes.{byteOf, Bytes}
 use Rattle.octets.proofs.Readers.{be-whole}
-use Rattle.octets.proofs.Runs.{Bytes}
 use Rattle.octets.specs.Writing.{bytesOf, pasted, opened}
 use Rattle.octets.proofs.Writing.{pasted-whole, pasted-opened}
 use Rattle.table.specs.Header.{countOf, roomOf, recordsOf, counting, written}

@@ -7,10 +7,11 @@ use lib.ListN.{length, drop}
 use lib.Dec.{ltb, eqb}
 use Rattle.laws.specs.Keyed.{stored, put}
 use Rattle.laws.specs.Refusals.{Test, test, refuse}
+use Rattle.laws.specs.Replies.{Reply, acceptedAs}
 use Rattle.octets.specs.Bytes.{sameBytes}
 use Rattle.numbers.specs.Numbers.{lowerCorrection, sameCorrection}
 use Rattle.slice.specs.Record.{recordSize, correctionOf, keyOf, keyLess, sameKey}
-use Rattle.slice.specs.Check.{sliceTests}
+use Rattle.slice.specs.Check.{refusalReply, sliceTests}
 use Rattle.table.specs.Header.{sideOf, featureOf, strideOf, headerOf, roomOf, recordsOf, written}
 use Rattle.table.specs.Rules.{takes, tableTests, ruling}
 use Rattle.table.specs.declared.check.Sides.the-variants.{Both}
@@ -28,6 +29,11 @@ creationTests t side = test 1 (ltb (length t) 32) ∷ test 2 (not (takes Both si
 
 unfoldable pub creationOf : List ℕ → ℕ → Creation
 creationOf t side = refuse creationRefused (creationTests t side) creation.Made
+
+-- in numbers: made, 1
+unfoldable pub creationReply : Creation → Reply
+creationReply creation.Made = acceptedAs 1 0
+creationReply (creation.Refused f) = refusalReply f
 
 -- the buffer after it
 abbrev pub created : Creation → List ℕ → ℕ → List ℕ → List ℕ
@@ -79,6 +85,14 @@ arrivalOf t s =
     refuse refusedArrival (tableTests (strideOf t) Both t ++ sliceTests (strideOf t) (featureOf t) (sideOf t) s)
     (filingOf (roomOf (recordSize (strideOf t)) t) (recordOf s) (recordsOf (recordSize (strideOf t)) t))
 
+-- in numbers: added, 1; replaced, 2; superseded, 3; a repeat, 4
+unfoldable pub arrivalReply : Arrival → Reply
+arrivalReply arrival.Added = acceptedAs 1 0
+arrivalReply arrival.Replaced = acceptedAs 2 0
+arrivalReply arrival.Superseded = acceptedAs 3 0
+arrivalReply arrival.Repeat = acceptedAs 4 0
+arrivalReply (arrival.Refused f) = refusalReply f
+
 -- the table after an answer, where us are its records with the new one in its place
 abbrev pub changed : Arrival → List ℕ → List (List ℕ) → List ℕ
 changed arrival.Added t us = written t us
@@ -101,5 +115,5 @@ arrivedAt t s = after (arrivalOf t s) (recordSize (strideOf t)) t (recordOf s)
 
 -- `unfolding arriving` opens every definition that an arrival computes by
 unfoldable pub arriving : Unit {0}
-unfolding creationTests creationOf storedOf filingTests filingOf arrivalOf filed ruling
+unfolding creationTests creationOf creationReply storedOf filingTests filingOf arrivalOf arrivalReply filed ruling
 arriving = tt

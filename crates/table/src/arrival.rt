@@ -8,7 +8,7 @@ ghost use Rattle.slice.specs.Record.{recordSize};
 ghost use Rattle.laws.specs.Lists.{insertedAt, replacedAt};
 ghost use Rattle.table.specs.Header.{countOf, strideOf, roomOf, recordsOf, written};
 ghost use Rattle.table.specs.Rules.{inOrder};
-ghost use Rattle.table.specs.Arriving.{recordOf, filingOf, arrivalOf, changed, after};
+ghost use Rattle.table.specs.Arriving.{recordOf, filingOf, arrivalOf, arrivalReply, changed, after};
 ghost use Rattle.table.specs.Steps.{placeFor, holds, answerTo};
 use crate::check::Sides;
 use crate::check::check_table;
@@ -128,7 +128,7 @@ fn file(table: &mut [u8], size: usize, record: &[u8]) -> Arrival
 // table is full. Added: the record stands in its place, the later ones have moved up, and the count is
 // one more. Replaced: it stands in the room of the stored one. Superseded and Repeat change nothing.
 pub fn arrive(table: &mut [u8], slice: &[u8]) -> Arrival
-    ensures answer { λ r. ⌜ r ≡ arrivalOf (now (table .entry)) (now (slice .entry)) ⌝ }
+    ensures answer { λ r. ⌜ arrivalReply r ≡ arrivalReply (arrivalOf (now (table .entry)) (now (slice .entry))) ⌝ }
     ensures buffer { λ r. ⌜ now (table .exit) ≡ after r (recordSize (strideOf (now (table .entry)))) (now (table .entry)) (recordOf (now (slice .entry))) ⌝ }
 {
     if let Checked::Refused(refusal) = check_table(table, Sides::Both) {

@@ -2,6 +2,7 @@
 ghost use mathlib.Core.Path.{_≡_};
 ghost use Prim.Native.Nat.{_≤_};
 ghost use Rattle.slice.specs.Record.{recordSize};
+ghost use Rattle.slice.specs.Check.{checkedReply};
 ghost use Rattle.table.specs.Header.{countOf, roomOf, recordsOf};
 ghost use Rattle.table.specs.Rules.{takes, failing, inOrder, checkTable, checkOrder};
 use crate::header::count_of;
@@ -79,7 +80,7 @@ fn is_in_order(table: &[u8], size: usize, count: usize) -> bool
 
 // The check of a table, rules 1 to 7, by a call that takes some sides.
 pub fn check_table(table: &[u8], sides: Sides) -> Checked
-    ensures { λ r. ⌜ r ≡ checkTable sides (now (table .entry)) ⌝ }
+    ensures { λ r. ⌜ checkedReply r ≡ checkedReply (checkTable sides (now (table .entry))) ⌝ }
 {
     if table.len() < 32 {
         return Checked::Refused(Refusal { number: 1 });
@@ -112,7 +113,7 @@ pub fn check_table(table: &[u8], sides: Sides) -> Checked
 // Rules 5 and 7 alone, by which a walk over the records of a table goes: for one whose records were
 // checked before.
 pub fn check_order(table: &[u8]) -> Checked
-    ensures { λ r. ⌜ r ≡ checkOrder (now (table .entry)) ⌝ }
+    ensures { λ r. ⌜ checkedReply r ≡ checkedReply (checkOrder (now (table .entry))) ⌝ }
 {
     let size = 32 + 8 * stride_of(table);
     let counted = count_of(table) as usize;

@@ -1,6 +1,6 @@
 // The new table.
 ghost use mathlib.Core.Path.{_≡_};
-ghost use Rattle.table.specs.Arriving.{creationOf, created};
+ghost use Rattle.table.specs.Arriving.{creationOf, creationReply, created};
 use crate::check::Sides;
 use crate::check::takes_side;
 use octets::put;
@@ -16,7 +16,7 @@ pub enum Creation {
 // Makes a table of a side and a feature that holds no record: writes its 32 bytes of header and nothing
 // else. Refused, with every byte as it was: 1 where they do not fit, 2 for a side that is none.
 pub fn new_table(table: &mut [u8], side: u8, feature: &[u8; 16]) -> Creation
-    ensures answer { λ r. ⌜ r ≡ creationOf (now (table .entry)) side ⌝ }
+    ensures answer { λ r. ⌜ creationReply r ≡ creationReply (creationOf (now (table .entry)) side) ⌝ }
     ensures buffer { λ r. ⌜ now (table .exit) ≡ created r (now (table .entry)) side (now (feature .entry)) ⌝ }
 {
     if table.len() < 32 {

@@ -1,3 +1,4 @@
+pub mod Replies
 pub mod Held
 pub mod Said
 pub mod Lengths

@@ -5,6 +5,7 @@ use mathlib.Core.List.{List, [], _∷_, _++_, map}
 use lib.ListN.{length, drop, replicate}
 use lib.Dec.{ltb}
 use Rattle.laws.specs.Lists.{joined}
+use Rattle.laws.specs.Replies.{Reply, acceptedAs}
 use Rattle.octets.specs.Bytes.{byteOf}
 use Rattle.numbers.specs.Numbers.{isNone}
 use Rattle.numbers.specs.declared.Instant.{Instant}
@@ -58,6 +59,11 @@ saidOf input = cond (ltb 57376 (length input)) (116 ∷ 111 ∷ 111 ∷ 32 ∷ 1
 unfoldable pub putOf : List ℕ → List ℕ → Listing
 putOf text buffer = cond (ltb (length buffer) (length text)) (Needs (length text)) (Text (length text))
 
+-- in numbers: the text, 1, and its length; or, 2, the length that it needs
+unfoldable pub listingReply : Listing → Reply
+listingReply (Text n) = acceptedAs 1 n
+listingReply (Needs n) = acceptedAs 2 n
+
 -- the buffer after that: the text and every byte beyond it as it was; or all as it was
 abbrev pub afterPut : Listing → List ℕ → List ℕ → List ℕ
 afterPut (Text n) text buffer = text ++ drop (length text) buffer
@@ -65,5 +71,5 @@ afterPut (Needs n) text buffer = buffer
 
 -- `unfolding listings` opens every definition that a listing computes by
 unfoldable pub listings : Unit {0}
-unfolding decimalOf endOf lineOf listingOf saidOf putOf deriveds
+unfolding decimalOf endOf lineOf listingOf saidOf putOf listingReply deriveds
 listings = tt

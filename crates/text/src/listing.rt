@@ -2,7 +2,7 @@
 ghost use mathlib.Core.Path.{_≡_};
 ghost use Prim.Native.Nat.{_≤_};
 ghost use lib.ListN.{length};
-ghost use Rattle.text.specs.Listing.{listingOf, saidOf, putOf, afterPut};
+ghost use Rattle.text.specs.Listing.{listingOf, saidOf, putOf, listingReply, afterPut};
 ghost use Rattle.text.specs.Wrote.{Wrote};
 use crate::lines::put_derived;
 use crate::lines::put_refused;
@@ -43,7 +43,7 @@ fn put_said(said: &[u8], text: &mut [u8]) -> Listing
 // The listing of a permanent table's derived baselines: how many they are, and a line for each; or the
 // number of the refusal. Answers its length; or, with every byte as it was, the length that it needs.
 pub fn list(permanent: &[u8], text: &mut [u8]) -> Listing
-    ensures answer { λ r. ⌜ r ≡ putOf (listingOf (now (permanent .entry))) (now (text .entry)) ⌝ }
+    ensures answer { λ r. ⌜ listingReply r ≡ listingReply (putOf (listingOf (now (permanent .entry))) (now (text .entry))) ⌝ }
     ensures buffer { λ r. ⌜ now (text .exit) ≡ afterPut r (listingOf (now (permanent .entry))) (now (text .entry)) ⌝ }
 {
     let mut said = [0u8; 10771];
@@ -53,7 +53,7 @@ pub fn list(permanent: &[u8], text: &mut [u8]) -> Listing
 
 // What the listing program says of its input: the listing, or `too long` where it has over 57,376 bytes.
 pub fn say(input: &[u8], text: &mut [u8]) -> Listing
-    ensures answer { λ r. ⌜ r ≡ putOf (saidOf (now (input .entry))) (now (text .entry)) ⌝ }
+    ensures answer { λ r. ⌜ listingReply r ≡ listingReply (putOf (saidOf (now (input .entry))) (now (text .entry))) ⌝ }
     ensures buffer { λ r. ⌜ now (text .exit) ≡ afterPut r (saidOf (now (input .entry))) (now (text .entry)) ⌝ }
 {
     if 57376 < input.len() {

@@ -1,17 +1,18 @@
 -- `baselines::derivation::derive` meets its contract: the tests in their order, and then the records that were drawn. Assumes nothing.
 use Prim.Native.Nat.{ℕ}
-use mathlib.Core.Path.{_≡_, refl, sym, subst, _∙_}
+use mathlib.Core.Path.{_≡_, refl, sym, ap, subst, _∙_}
 use mathlib.Core.Bool.{false}
 use mathlib.Core.List.{List}
 use native.Mathlib.Omega.{arith}
 use Rattle.slice.specs.declared.check.Checked.the-variants.{Sound}
+use Rattle.slice.proofs.Replies.{checked-told}
 use Rattle.slice.specs.Record.{permanent}
 use Rattle.laws.specs.Lists.{any}
 use Rattle.table.specs.Header.{strideOf}
 use Rattle.table.specs.Rules.{fails, checkTable}
 use Rattle.table.specs.declared.check.Sides.the-variants as sides
 use Rattle.table.proofs.Sound.{sound-table}
-use Rattle.baselines.specs.Deriving.{derivedRecords}
+use Rattle.baselines.specs.Deriving.{derivedRecords, derivationReply}
 use Rattle.baselines.specs.Steps.{drawnOf, Drew}
 use Rattle.baselines.specs.declared.drawing.Drawn.{Drawn}
 use Rattle.baselines.proofs.Decided.{told-two, told-records, table-refused, two-refused, many-refused, few-left}
@@ -27,7 +28,7 @@ abbrev table : tie.After-enum-told → List ℕ
 table c = start c .args .permanent .now
 
 sound : (c : tie.After-enum-told) → checkTable sides.Permanent (table c) ≡ Sound
-sound c = sym (c .before .before .check-table .ensures) ∙ c .enum-told .given .1
+sound c = sym (checked-told _ _ (c .before .before .check-table .ensures)) ∙ c .enum-told .given .1
 
 -- what the walk told
 abbrev checked : tie.After-draw-all → tie.After-enum-told
@@ -45,7 +46,7 @@ returns-2 c =
     let k = c .before .before in
     let d = checked (k .before .before .before) in
     let t = told-records _ _ (told k) in
-    (many-refused _ _ (sound d) (t .0) (pass d) (omega (arith, t .1, c .if1 .taken)), refl)
+    (ap derivationReply (many-refused _ _ (sound d) (t .0) (pass d) (omega (arith, t .1, c .if1 .taken))), refl)
 
 hand-over-requires : tie.Need-hand-over-requires
 hand-over-requires c κs =
@@ -59,7 +60,7 @@ hand-over-requires c κs =
 returns-3 : tie.Need-returns-3
 returns-3 c =
     let d = c .before .before .before in
-    (two-refused _ _ (sound (checked d)) (told-two _ (sym (d .draw-all .ensures .0) ∙ c .enum-told2 .given .1)), refl)
+    (ap derivationReply (two-refused _ _ (sound (checked d)) (told-two _ (sym (d .draw-all .ensures .0) ∙ c .enum-told2 .given .1))), refl)
 
 returns-4 : tie.Need-returns-4
 returns-4 c =
@@ -68,7 +69,7 @@ returns-4 c =
     let k = e .before .before in
     let d = checked (k .before .before .before) in
     let t = told-records _ _ (told k) in
-    (h .hand-over .ensures .0 ∙ few-left _ _ (sound d) (t .0) (pass d) (omega (arith, t .1, e .if1 .left)), h .hand-over .ensures .1)
+    (ap derivationReply (h .hand-over .ensures .0 ∙ few-left _ _ (sound d) (t .0) (pass d) (omega (arith, t .1, e .if1 .left))), h .hand-over .ensures .1)
 
 pub derive-spec : {M : Type 1} → statement M
 derive-spec =
@@ -76,7 +77,7 @@ derive-spec =
     (tie.spec
     (λ c κs. search needs)
     (λ c. search needs)
-    (λ c. (table-refused _ _ _ (sym (c .before .before .before .check-table .ensures) ∙ c .before .refusal .given .1), refl))
+    (λ c. (ap derivationReply (table-refused _ _ _ (sym (checked-told _ _ (c .before .before .before .check-table .ensures)) ∙ c .before .refusal .given .1)), refl))
     (λ c. search needs)
     (λ c. search needs)
     (λ c κs. (sound (c .before), refl))

@@ -10,7 +10,7 @@ use lib.Dec.{eqb, ltb}
 use borrow.Author.Tests.{not-true, not-false, eqb-true, ltb-true}
 use Rattle.laws.proofs.Tests.{tests, and-both}
 use Rattle.octets.specs.Writing.{pasted}
-use Rattle.octets.proofs.Runs.{Bytes}
+use Rattle.octets.specs.Bytes.{Bytes}
 use Rattle.numbers.specs.Numbers.{noInstant, isNone, sameInstant}
 use Rattle.numbers.specs.declared.Instant.{Instant}
 use Rattle.numbers.proofs.Facts.{none-false}
@@ -26,6 +26,7 @@ use Rattle.history.specs.State.{started}
 use Rattle.history.proofs.Orders.{instant-of}
 use Rattle.history.proofs.Line.{known-apart}
 use Rattle.state.specs.Asking.{slicesOf, outcomeOf}
+use Rattle.state.proofs.Replies.{outcome-told}
 use Rattle.state.proofs.Walks.{size-at, read-by}
 use Rattle.state.proofs.Pasting.{pasted-all}
 use Rattle.baselines.specs.Carried.{Carries, Before, Held}
@@ -73,7 +74,7 @@ returns c =
     let q = c .before .before in
     let k = q .before .before .before .before .before in
     let p = table k in
-    let o = q .state-at .ensures .0 ∙ answered p (instant k) (start k .args .current .now) (sound-order Permanent p (sound-table Permanent p (sound k))) (given′ k) (long k) in
+    let o = outcome-told _ _ (q .state-at .ensures .0) ∙ answered p (instant k) (start k .args .current .now) (sound-order Permanent p (sound-table Permanent p (sound k))) (given′ k) (long k) in
     (o, asked-shows p (bytes k) (sound k) (instant k) _ _ _ o (q .state-at .ensures .1))
 
 -- ---- one BASELINE holds: its record, and whether it begins at the instant

@@ -9,7 +9,7 @@ use borrow.Author.Tests.{not-true, not-false, eqb-true}
 use borrow.Author.Needs.{needs}
 use Rattle.laws.specs.Refusals.{refuse}
 use Rattle.slice.specs.Record.{recordSize, ofSide, kindOf}
-use Rattle.slice.specs.Check.{refused, reservedClear, recordTests, checkRecord}
+use Rattle.slice.specs.Check.{checkedReply, refused, reservedClear, recordTests, checkRecord}
 use Rattle.slice.specs.declared.check.Checked.{Checked}
 use Rattle.slice.proofs.Stages.{from13, rules-are, record-is}
 use Rattle.slice.specs.declared.check.Checked.the-variants.{Sound}
@@ -57,33 +57,33 @@ whole c = eqb-true _ _ (size (c .before .before .before .before .before))
 
 returns : tie.Need-returns
 returns c =
-    c .refuse-with .ensures ∙ sym (record-is _ _ _ ∙ rw (sym (c .before .before .is-sized .ensures) ∙ not-true _ (c .before .if1 .taken)))
+    ap checkedReply (c .refuse-with .ensures ∙ sym (record-is _ _ _ ∙ rw (sym (c .before .before .is-sized .ensures) ∙ not-true _ (c .before .if1 .taken))))
 
 returns-2 : tie.Need-returns-2
 returns-2 c =
     let t = c .before .before in
-    c .refuse-with2 .ensures ∙ sym (past9 (t .before .before) ∙ rules-are _ _ _ ∙ rw (sym (taken t) ∙ not-true _ (c .before .if2 .taken)))
+    ap checkedReply (c .refuse-with2 .ensures ∙ sym (past9 (t .before .before) ∙ rules-are _ _ _ ∙ rw (sym (taken t) ∙ not-true _ (c .before .if2 .taken))))
 
 returns-3 : tie.Need-returns-3
 returns-3 c =
-    c .refuse-with3 .ensures ∙ sym (past11 (c .before .before .before) ∙ rw (sym (c .before .before .reserved-clear .ensures) ∙ not-true _ (c .before .if3 .taken)))
+    ap checkedReply (c .refuse-with3 .ensures ∙ sym (past11 (c .before .before .before) ∙ rw (sym (c .before .before .reserved-clear .ensures) ∙ not-true _ (c .before .if3 .taken))))
 
 returns-4 : tie.Need-returns-4
 returns-4 c =
     let k = c .before .before in
-    c .check-counted .ensures ∙ sym (past12 (k .before) ∙ rw (sym (k .is-cancelled .ensures) ∙ not-true _ (c .before .if4 .taken)))
+    ap checkedReply (c .check-counted .ensures ∙ sym (past12 (k .before) ∙ rw (sym (k .is-cancelled .ensures) ∙ not-true _ (c .before .if4 .taken))))
 
 returns-5 : tie.Need-returns-5
 returns-5 c =
     let m = c .before .before in
     let k = m .before .before in
-    c .refuse-with4 .ensures ∙ sym (past12 (k .before) ∙ rw (sym (k .is-cancelled .ensures) ∙ not-false _ (m .before .if4 .left), sym (m .is-emptied .ensures) ∙ not-true _ (c .before .if5 .taken)))
+    ap checkedReply (c .refuse-with4 .ensures ∙ sym (past12 (k .before) ∙ rw (sym (k .is-cancelled .ensures) ∙ not-false _ (m .before .if4 .left), sym (m .is-emptied .ensures) ∙ not-true _ (c .before .if5 .taken))))
 
 returns-6 : tie.Need-returns-6
 returns-6 c =
     let m = c .before in
     let k = m .before .before in
-    sym (past12 (k .before) ∙ rw (sym (k .is-cancelled .ensures) ∙ not-false _ (m .before .if4 .left), sym (m .is-emptied .ensures) ∙ not-false _ (c .if5 .left)))
+    ap checkedReply (sym (past12 (k .before) ∙ rw (sym (k .is-cancelled .ensures) ∙ not-false _ (m .before .if4 .left), sym (m .is-emptied .ensures) ∙ not-false _ (c .if5 .left))))
 
 pub check-record-spec : {M : Type 1} → statement M
 check-record-spec =

@@ -1,6 +1,6 @@
 -- `slice::check::check_slice` meets its contract: past 9 and 10 what is left is the check of a record. Assumes nothing.
 use Prim.Native.Nat.{ℕ}
-use mathlib.Core.Path.{_≡_, sym, _∙_}
+use mathlib.Core.Path.{_≡_, sym, _∙_, ap}
 use mathlib.Core.List.{List}
 use mathlib.Core.Bool.{not, cond}
 use native.Mathlib.Omega.{arith}
@@ -11,7 +11,7 @@ use Rattle.laws.specs.Refusals.{refuse}
 use Rattle.laws.proofs.Lists.{rest-whole}
 use Rattle.octets.specs.Bytes.{sameBytes}
 use Rattle.slice.specs.Record.{recordSize, sliceSize}
-use Rattle.slice.specs.Check.{refused, recordTests, checkSlice}
+use Rattle.slice.specs.Check.{checkedReply, refused, recordTests, checkSlice}
 use Rattle.slice.specs.declared.check.Checked.{Checked}
 use Rattle.slice.specs.declared.check.Checked.the-variants.{Sound}
 use Rattle.slice.proofs.Stages.{record-is, slice-is}
@@ -47,19 +47,20 @@ record-size c = length-drop 16 (B (s1 c)) ∙ omega (arith, size c)
 
 returns : tie.Need-returns
 returns c =
-    c .refuse-with .ensures ∙ sym (slice-is _ _ _ _ ∙ rw (sym (c .before .before .is-sized .ensures) ∙ not-true _ (c .before .if1 .taken)))
+    ap checkedReply (c .refuse-with .ensures ∙ sym (slice-is _ _ _ _ ∙ rw (sym (c .before .before .is-sized .ensures) ∙ not-true _ (c .before .if1 .taken))))
 
 returns-2 : tie.Need-returns-2
 returns-2 c =
     let m = c .before .before in
-    c .refuse-with2 .ensures ∙ sym (past9 (m .before .before) ∙ rw (sym (m .same .ensures) ∙ not-true _ (c .before .if2 .taken)))
+    ap checkedReply (c .refuse-with2 .ensures ∙ sym (past9 (m .before .before) ∙ rw (sym (m .same .ensures) ∙ not-true _ (c .before .if2 .taken))))
 
 returns-3 : tie.Need-returns-3
 returns-3 c =
     let m = c .before .before .before in
     let e = m .before .before in
-    rw (rest-whole 16 (B (s1 e))) at (c .check-record .ensures) ∙ record-is _ _ _ ∙ rw (eq-eqb _ _ (record-size e))
-    (sym (past9 e ∙ rw (sym (m .same .ensures) ∙ not-false _ (c .before .before .if2 .left))))
+    rw (rest-whole 16 (B (s1 e))) at (c .check-record .ensures) ∙ ap checkedReply
+    (record-is _ _ _ ∙ rw (eq-eqb _ _ (record-size e))
+    (sym (past9 e ∙ rw (sym (m .same .ensures) ∙ not-false _ (c .before .before .if2 .left)))))
 
 pub check-slice-spec : {M : Type 1} → statement M
 check-slice-spec =

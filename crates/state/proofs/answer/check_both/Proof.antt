@@ -4,6 +4,7 @@ use mathlib.Core.Bool.{cond}
 use native.Mathlib.Omega.{arith}
 use Rattle.slice.specs.Check.{refused}
 use Rattle.slice.specs.declared.check.Checked.the-variants.{Sound}
+use Rattle.slice.proofs.Replies.{checked-told}
 use Rattle.table.specs.Rules.{checkTable}
 use Rattle.table.specs.declared.check.Sides.the-variants as sides
 use Rattle.table.proofs.Sound.{sound-table}
@@ -13,13 +14,13 @@ use Rattle.state.proofs.answer.check_both.Statement.{statement}
 use Rattle.state.proofs.answer.check_both.Tie as tie
 
 first : (c : tie.After-enum-told) → checkTable sides.Permanent (c .before .before .before .before .before .args .permanent .now) ≡ Sound
-first c = sym (c .before .before .check-table .ensures) ∙ c .enum-told .given .1
+first c = sym (checked-told _ _ (c .before .before .check-table .ensures)) ∙ c .enum-told .given .1
 
 second : (c : tie.After-enum-told2) → checkTable sides.Temporary (c .before .before .before .before .before .before .before .before .args .temporary .now) ≡ Sound
-second c = sym (c .before .before .check-table2 .ensures) ∙ c .enum-told2 .given .1
+second c = sym (checked-told _ _ (c .before .before .check-table2 .ensures)) ∙ c .enum-told2 .given .1
 
 returns-2 : tie.Need-returns-2
-returns-2 c = both-second _ _ (first (c .before .before .before .before)) _ (sym (c .before .before .before .check-table2 .ensures) ∙ c .before .refusal2 .given .1)
+returns-2 c = both-second _ _ (first (c .before .before .before .before)) _ (sym (checked-told _ _ (c .before .before .before .check-table2 .ensures)) ∙ c .before .refusal2 .given .1)
 
 part-same-end : tie.Need-part-same-end
 part-same-end c = omega (arith, sound-table sides.Permanent (c .before .before .before .before .before .before .before .before .args .permanent .now) (first (c .before .before .before)) .headed)
@@ -39,7 +40,7 @@ check-both-spec =
     (tie.spec
     (λ c κs. search needs)
     (λ c. search needs)
-    (λ c. both-first _ _ _ (sym (c .before .before .before .check-table .ensures) ∙ c .before .refusal .given .1))
+    (λ c. both-first _ _ _ (sym (checked-told _ _ (c .before .before .before .check-table .ensures)) ∙ c .before .refusal .given .1))
     (λ c. search needs)
     (λ c κs. search needs)
     (λ c. search needs)

@@ -15,7 +15,7 @@ use Rattle.history.specs.Counted.{sliceKey}
 use Rattle.history.specs.Anchor.{stands}
 use Rattle.history.specs.Permanent.{Standing, permanentAt}
 use Rattle.history.specs.Snapshot.{passing, overlaid, snapshotAt}
-use Rattle.state.specs.Asking.{slicesOf, checkBoth, snapshotOf, outcomeOf, recordOf}
+use Rattle.state.specs.Asking.{slicesOf, checkBoth, snapshotOf, outcomeOf, outcomeReply, recordOf}
 use Rattle.state.specs.Steps.{sinceOf}
 use Rattle.state.proofs.Slices.{sound-rising}
 use Rattle.state.specs.declared.anchor.Standing as anchor
@@ -92,12 +92,12 @@ begun c = subst (Stood (c .before .before .before)) (c .start .given .1) (stood 
 returns-2 : tie.Need-returns-2
 returns-2 c =
     let k = c .before .before in
-    (left-none _ _ _ (standing k) (sym (c .before .is-none .ensures) ∙ c .if1 .taken) ∙ snapshot-left _ _ _ _ (checked k), refl)
+    (ap outcomeReply (left-none _ _ _ (standing k) (sym (c .before .is-none .ensures) ∙ c .if1 .taken) ∙ snapshot-left _ _ _ _ (checked k)), refl)
 
 returns-3 : tie.Need-returns-3
 returns-3 c =
     let k = c .before .before .before .before in
-    (left-misfit _ _ _ (standing k) (sym (c .before .before .before .is-none .ensures) ∙ c .before .before .if1 .left) (λ e. c .if2 .taken (e ∙ sym (ap recordSize (c .before .stride-of .ensures)))) ∙ snapshot-left _ _ _ _ (checked k), refl)
+    (ap outcomeReply (left-misfit _ _ _ (standing k) (sym (c .before .before .before .is-none .ensures) ∙ c .before .before .if1 .left) (λ e. c .if2 .taken (e ∙ sym (ap recordSize (c .before .stride-of .ensures)))) ∙ snapshot-left _ _ _ _ (checked k)), refl)
 
 put-state-requires : tie.Need-put-state-requires
 put-state-requires c κs =
@@ -126,7 +126,7 @@ returns-4 : tie.Need-returns-4
 returns-4 c =
     let v = c .before .before .before .before in
     let stands = subst (Stood v) (c .before .refusal2 .given .1) (stood (c .before .before .before)) in
-    (sym (ap outcomeOf (laid (told v) _ stands)) ∙ asked (v .before), refl)
+    (ap outcomeReply (sym (ap outcomeOf (laid (told v) _ stands)) ∙ asked (v .before)), refl)
 
 returns-5 : tie.Need-returns-5
 returns-5 c =
@@ -136,7 +136,7 @@ returns-5 c =
     let b = begun (c .before .before .before .before .before .before .before) in
     let o = c .before .before .before .before .overlay in
     let e = laid k _ (b .state) in (
-      sym (ap outcomeOf e) ∙ asked (v .before),
+      ap outcomeReply (sym (ap outcomeOf e) ∙ asked (v .before)),
       c .before .before .put-state .ensures
           ∙ (snapshot-filled _ (a .instant) (table k) (roomy k) (up k) _ b (v .survey-permanent .result .latest .marks) (surveyed v .marks) (other k) (o .result) (sound k .1) (o .ensures .1)
           ∙ sym (ap (λ (s : Standing). recordOf (strideOf (table k)) (a .instant) s (a .«record» .now)) e)),
@@ -148,7 +148,7 @@ snapshot-spec =
     (tie.spec
     (λ c κs. search needs)
     (λ c. search needs)
-    (λ c. (snapshot-refused _ _ _ _ _ (sym (c .before .before .before .check-both .ensures) ∙ c .before .refusal .given .1), refl))
+    (λ c. (ap outcomeReply (snapshot-refused _ _ _ _ _ (sym (c .before .before .before .check-both .ensures) ∙ c .before .refusal .given .1)), refl))
     (λ c. search needs)
     (λ c κs. search needs)
     returns-2

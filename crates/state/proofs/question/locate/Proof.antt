@@ -18,7 +18,7 @@ use Rattle.table.proofs.Sound.{sound-table}
 use Rattle.history.specs.Counted.{sliceKey}
 use Rattle.history.specs.Anchor.{stands}
 use Rattle.history.specs.Permanent.{Standing, permanentAt}
-use Rattle.state.specs.Asking.{slicesOf, checkBoth, placeAt, placeOf}
+use Rattle.state.specs.Asking.{slicesOf, checkBoth, placeAt, placeOf, placeReply}
 use Rattle.state.specs.Steps.{sinceOf}
 use Rattle.state.proofs.Slices.{sound-rising}
 use Rattle.state.specs.declared.anchor.Standing as anchor
@@ -113,17 +113,18 @@ returns-3 : tie.Need-returns-3
 returns-3 c =
     let v = c .before .before .before .before in
     let stands = subst (Stood v) (c .before .refusal2 .given .1) (stood (c .before .before .before)) in
-    sym (ap (answer (told v)) stands) ∙ asked (v .before)
+    ap placeReply (sym (ap (answer (told v)) stands) ∙ asked (v .before))
 
 returns-4 : tie.Need-returns-4
 returns-4 c =
     let v = c .before .before .before .before .before .before .before .before in
     let k = told v in
     let n = start k .args .property in
-    c .placed .ensures
+    ap placeReply
+    (c .placed .ensures
     ∙ (placed-is _ (start k .args .instant) (table k) (other k) (roomy k) (up k) (roomy2 k) (sound-rising (other k) sides.Temporary (sound k .1)) _ (begun (c .before .before .before .before .before)) n (small (v .before))
     _ (mark-due _ _ _ _ _ (surveyed v) n (omega arith) (omega arith)) _ (c .before .before .overlay .ensures .1 n (small (v .before)))
-    ∙ asked (v .before))
+    ∙ asked (v .before)))
 
 pub locate-spec : {M : Type 1} → statement M
 locate-spec =
@@ -131,10 +132,10 @@ locate-spec =
     (tie.spec
     (λ c κs. search needs)
     (λ c. search needs)
-    (λ c. place-refused _ _ _ _ _ (sym (c .before .before .before .check-both .ensures) ∙ c .before .refusal .given .1))
+    (λ c. ap placeReply (place-refused _ _ _ _ _ (sym (c .before .before .before .check-both .ensures) ∙ c .before .refusal .given .1)))
     (λ c. search needs)
     (λ c κs. search needs)
-    (λ c. place-none _ _ _ _ (checked (c .before .before)) (sym (test (c .before)) ∙ c .if1 .taken))
+    (λ c. ap placeReply (place-none _ _ _ _ (checked (c .before .before)) (sym (test (c .before)) ∙ c .if1 .taken)))
     (λ c. search needs)
     (λ c κs. (roomy (c .before .before), (up (c .before .before), (omega arith, omega (arith, small c)))))
     (λ c κs. settle-asks _ _ _ _ _ (surveyed c))

@@ -9,10 +9,11 @@ use Rattle.laws.proofs.Lists.{rest-whole}
 use Rattle.slice.specs.Record.{recordSize}
 use Rattle.slice.specs.Check.{checkSlice}
 use Rattle.slice.specs.declared.check.Checked.the-variants.{Sound}
+use Rattle.slice.proofs.Replies.{checked-told}
 use Rattle.slice.proofs.Sound.{SoundSlice, sound-slice}
 use Rattle.table.specs.Header.{sideOf, featureOf, strideOf, roomOf, recordsOf}
 use Rattle.table.specs.Rules.{checkTable}
-use Rattle.table.specs.Arriving.{filingOf, after}
+use Rattle.table.specs.Arriving.{filingOf, arrivalReply, after}
 use Rattle.table.specs.declared.check.Sides.the-variants.{Both}
 use Rattle.table.proofs.Sound.{SoundTable, sound-table, table-refuses, slice-refuses, slice-passes}
 use Rattle.table.proofs.arrival.arrive.Statement.{statement}
@@ -29,7 +30,7 @@ S c = start c .args .slice .now
 
 -- past the check of the table
 sound : (c : tie.After-enum-told) → checkTable Both (T c) ≡ Sound
-sound c = sym (c .before .before .check-table .ensures) ∙ c .enum-told .given .1
+sound c = sym (checked-told _ _ (c .before .before .check-table .ensures)) ∙ c .enum-told .given .1
 
 facts : (c : tie.After-enum-told) → SoundTable (strideOf (T c)) Both (T c)
 facts c = sound-table Both (T c) (sound c)
@@ -41,7 +42,7 @@ told c = c .before .before .before .before .before .before .before
 checked : (c : tie.After-check-slice) → let k = told c in c .check-slice .result ≡ checkSlice (strideOf (T k)) (featureOf (T k)) (sideOf (T k)) (S k)
 checked c =
     let d = c .before .before .before in
-    c .check-slice .ensures ∙ (λ i. checkSlice (d .before .before .stride-of .ensures i) (featureOf (T (told c))) (d .side-of .ensures i) (S (told c)))
+    checked-told _ _ (c .check-slice .ensures) ∙ (λ i. checkSlice (d .before .before .stride-of .ensures i) (featureOf (T (told c))) (d .side-of .ensures i) (S (told c)))
 
 -- past it
 sound2 : (c : tie.After-enum-told2) → let k = told (c .before .before) in SoundSlice (strideOf (T k)) (featureOf (T k)) (sideOf (T k)) (S k)
@@ -60,13 +61,13 @@ returns : tie.Need-returns
 returns c =
     let r = c .before in
     let k = r .before .before in
-    (sym (table-refuses _ _ (r .refusal .given .0 .0) (sym (k .check-table .ensures) ∙ r .refusal .given .1)), refl)
+    (ap arrivalReply (sym (table-refuses _ _ (r .refusal .given .0 .0) (sym (checked-told _ _ (k .check-table .ensures)) ∙ r .refusal .given .1))), refl)
 
 returns-2 : tie.Need-returns-2
 returns-2 c =
     let r = c .before in
     let k = r .before .before in
-    (sym (slice-refuses _ _ (sound (told k)) (r .refusal2 .given .0 .0) (sym (checked k) ∙ r .refusal2 .given .1)), refl)
+    (ap arrivalReply (sym (slice-refuses _ _ (sound (told k)) (r .refusal2 .given .0 .0) (sym (checked k) ∙ r .refusal2 .given .1))), refl)
 
 file-requires : tie.Need-file-requires
 file-requires c κs =
@@ -83,9 +84,10 @@ returns-3 c =
     let k = told (e .before .before) in
     let size = sized (e .before .before) in
     let whole = rest-whole 16 (S k) in (
-      x .file .ensures .0
+      ap arrivalReply
+          (x .file .ensures .0
           ∙ (λ i. filingOf (roomOf (size i) (T k)) (whole i) (recordsOf (size i) (T k)))
-          ∙ sym (slice-passes _ _ (sound k) (sym (checked (e .before .before)) ∙ e .enum-told2 .given .1)),
+          ∙ sym (slice-passes _ _ (sound k) (sym (checked (e .before .before)) ∙ e .enum-told2 .given .1))),
       x .file .ensures .1 ∙ (λ i. after (x .file .result) (size i) (T k) (whole i)),
     )
 

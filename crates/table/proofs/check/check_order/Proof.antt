@@ -6,6 +6,7 @@ use native.Mathlib.Omega.{arith}
 use borrow.Author.Tests.{not-true, not-false, lt-ltb, le-ltb}
 use borrow.Author.Needs.{needs}
 use Rattle.slice.specs.Record.{recordSize}
+use Rattle.slice.specs.Check.{checkedReply}
 use Rattle.table.specs.Header.{strideOf, countOf, roomOf, recordsOf}
 use Rattle.table.specs.Rules.{inOrder, orderTests, checkOrder}
 use Rattle.table.proofs.check.check_order.Statement.{statement}
@@ -37,15 +38,15 @@ order-is c =
 
 returns : tie.Need-returns
 unfolding checkOrder orderTests
-returns c = sym (rw (lt-ltb _ _ (over c)))
+returns c = ap checkedReply (sym (rw (lt-ltb _ _ (over c))))
 
 returns-2 : tie.Need-returns-2
 unfolding checkOrder orderTests
-returns-2 c = sym (rw (le-ltb _ _ (roomy (c .before .before)), sym (order-is (c .before)) ∙ not-true _ (c .if2 .taken)))
+returns-2 c = ap checkedReply (sym (rw (le-ltb _ _ (roomy (c .before .before)), sym (order-is (c .before)) ∙ not-true _ (c .if2 .taken))))
 
 returns-3 : tie.Need-returns-3
 unfolding checkOrder orderTests
-returns-3 c = sym (rw (le-ltb _ _ (roomy (c .before .before)), sym (order-is (c .before)) ∙ not-false _ (c .if2 .left)))
+returns-3 c = ap checkedReply (sym (rw (le-ltb _ _ (roomy (c .before .before)), sym (order-is (c .before)) ∙ not-false _ (c .if2 .left))))
 
 pub check-order-spec : {M : Type 1} → statement M
 check-order-spec =

@@ -7,6 +7,7 @@ use native.Mathlib.Omega.{arith}
 use borrow.Author.Tests.{not-true, not-false, lt-ltb, le-ltb, ne-eqb, eq-eqb}
 use borrow.Author.Needs.{needs}
 use Rattle.slice.specs.Record.{recordSize}
+use Rattle.slice.specs.Check.{checkedReply}
 use Rattle.slice.specs.declared.check.Checked.{Checked}
 use Rattle.table.specs.Header.{lettered, sideOf, strideOf, countOf, roomOf, recordsOf}
 use Rattle.table.specs.Rules.{takes, failing, inOrder, checkTable}
@@ -95,34 +96,34 @@ order-is c =
     c .is-in-order .ensures ∙ ap (λ (n : ℕ). inOrder (recordsOf n (T (s5 k)))) (sized k)
 
 returns : tie.Need-returns
-returns c = sym (table-is _ _ ∙ rw (lt-ltb _ _ (c .if1 .taken)))
+returns c = ap checkedReply (sym (table-is _ _ ∙ rw (lt-ltb _ _ (c .if1 .taken))))
 
 returns-2 : tie.Need-returns-2
-returns-2 c = sym (past1 (c .before .before .before .before) ∙ rw (sym (named (c .before)) ∙ not-true _ (c .if2 .taken)))
+returns-2 c = ap checkedReply (sym (past1 (c .before .before .before .before) ∙ rw (sym (named (c .before)) ∙ not-true _ (c .if2 .taken))))
 
 returns-3 : tie.Need-returns-3
-returns-3 c = sym (past2 (c .before .before) ∙ rw (ne-eqb _ _ (λ e. c .if3 .taken (c .before .be16 .ensures ∙ e))))
+returns-3 c = ap checkedReply (sym (past2 (c .before .before) ∙ rw (ne-eqb _ _ (λ e. c .if3 .taken (c .before .be16 .ensures ∙ e)))))
 
 returns-4 : tie.Need-returns-4
-returns-4 c = sym (past3 (c .before .before) ∙ rw (sym (c .before .blank8 .ensures) ∙ not-true _ (c .if4 .taken)))
+returns-4 c = ap checkedReply (sym (past3 (c .before .before) ∙ rw (sym (c .before .blank8 .ensures) ∙ not-true _ (c .if4 .taken))))
 
 returns-5 : tie.Need-returns-5
 returns-5 c =
     let k = c .before in
-    sym (past4 (k .before .before .before) ∙ rw (lt-ltb _ _ (over c)))
+    ap checkedReply (sym (past4 (k .before .before .before) ∙ rw (lt-ltb _ _ (over c))))
 
 returns-6 : tie.Need-returns-6
 returns-6 c =
     let f = c .before .before in
-    sym (past5 (f .before) ∙ rw (failing-at _ _ _ (c .enum-told2 .given .0 .0) (sym (search-is f) ∙ c .enum-told2 .given .1)))
+    ap checkedReply (sym (past5 (f .before) ∙ rw (failing-at _ _ _ (c .enum-told2 .given .0 .0) (sym (search-is f) ∙ c .enum-told2 .given .1))))
 
 returns-7 : tie.Need-returns-7
 returns-7 c =
-    sym (past6 (c .before .before) ∙ rw (sym (order-is (c .before)) ∙ not-true _ (c .if6 .taken)))
+    ap checkedReply (sym (past6 (c .before .before) ∙ rw (sym (order-is (c .before)) ∙ not-true _ (c .if6 .taken))))
 
 returns-8 : tie.Need-returns-8
 returns-8 c =
-    sym (past6 (c .before .before) ∙ rw (sym (order-is (c .before)) ∙ not-false _ (c .if6 .left)))
+    ap checkedReply (sym (past6 (c .before .before) ∙ rw (sym (order-is (c .before)) ∙ not-false _ (c .if6 .left))))
 
 pub check-table-spec : {M : Type 1} → statement M
 check-table-spec =

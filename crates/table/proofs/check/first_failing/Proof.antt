@@ -5,6 +5,7 @@ use mathlib.Core.Path.{_≡_, sym, _∙_, ap}
 use native.Mathlib.Omega.{arith}
 use borrow.Author.Needs.{needs}
 use Rattle.slice.specs.declared.check.Checked.{Checked}
+use Rattle.slice.proofs.Replies.{checked-told}
 use Rattle.table.specs.Header.{countOf, roomOf, recordsOf, recordAt}
 use Rattle.table.specs.Rules.{isRefused, fails, failing}
 use Rattle.table.proofs.Walks.{failingFrom, failing-start, failing-here, failing-on, failing-end}
@@ -27,7 +28,7 @@ roomy l = omega arith
 told : (c : tie.After-check-record Inv-loop μ-loop) (r : Checked) → c .check-record .result ≡ r
     → let l = c .before .before .before in let a = start l .args in fails (a .stride) (a .side) (recordAt (a .size) (l .loop .i) (a .table .now)) ≡ isRefused r
 unfolding fails
-told c r e = ap isRefused (rw (c .before .record-at .ensures .0) at (sym (c .check-record .ensures)) ∙ e)
+told c r e = ap isRefused (rw (c .before .record-at .ensures .0) at (sym (checked-told _ _ (c .check-record .ensures))) ∙ e)
 
 loop-holds : tie.Need-loop-holds Inv-loop μ-loop
 loop-holds c = (omega arith, failing-start _ _ _ _)

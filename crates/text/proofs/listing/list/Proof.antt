@@ -3,6 +3,7 @@ use Prim.Native.Nat.{_-_}
 use mathlib.Core.Path.{_≡_, ap, _∙_}
 use native.Mathlib.Omega.{arith}
 use lib.ListN.{take}
+use Rattle.text.specs.Listing.{listingReply}
 use Rattle.text.proofs.Said.{wrote-front}
 use borrow.Author.Needs.{needs}
 use Rattle.text.proofs.listing.list.Statement.{statement}
@@ -14,7 +15,7 @@ returns c =
     let l = w .before .before .before .before .before in
     let n : l .put-listing .result - 0 ≡ l .put-listing .result = omega arith in
     let said = ap (λ m. take m (l .put-listing .last .0)) n ∙ wrote-front (omega arith) (l .put-listing .ensures) in
-    (rw said at (w .put-said .ensures .0), rw said at (w .put-said .ensures .1))
+    (ap listingReply (rw said at (w .put-said .ensures .0)), rw said at (w .put-said .ensures .1))
 
 pub list-spec : {M : Type 1} → statement M
 list-spec =

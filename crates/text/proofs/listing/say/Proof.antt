@@ -1,6 +1,7 @@
 -- `text::listing::say` meets its contract: the one test, and the listing. Assumes nothing.
+use mathlib.Core.Path.{ap}
 use borrow.Author.Tests.{lt-ltb, le-ltb}
-use Rattle.text.specs.Listing.{saidOf}
+use Rattle.text.specs.Listing.{saidOf, listingReply}
 use borrow.Author.Needs.{needs}
 use Rattle.text.proofs.listing.say.Statement.{statement}
 use Rattle.text.proofs.listing.say.Tie as tie
@@ -11,7 +12,7 @@ returns c =
     let w = c .before .before in
     let t = w .before .before .before in
     let e = lt-ltb _ _ (t .if1 .taken) in
-    (rw e (w .put-said .ensures .0), rw e (w .put-said .ensures .1))
+    (ap listingReply (rw e (w .put-said .ensures .0)), rw e (w .put-said .ensures .1))
 
 returns-2 : tie.Need-returns-2
 unfolding saidOf
