@@ -1,4 +1,4 @@
--- DEMAND 3, FIRST HALF: which order slices came in is of no account. Assumes nothing.
+-- DEMAND 3, FIRST HALF: the order in which slices came does not matter. Assumes nothing.
 use Prim.Native.Nat.{ℕ, _≤_}
 use mathlib.Core.Path.{_≡_, sym, ap, _∙_}
 use mathlib.Core.List.{List, [], map}
