@@ -1,7 +1,8 @@
 -- The answer of each delivery, as a table of the four accepted answers, 17 and 18. Assumes nothing.
-use Prim.Native.Nat.{ℕ, _<_}
+use Prim.Native.Nat.{ℕ}
 use mathlib.Core.Path.{_≡_, refl, sym, ap, _∙_}
 use mathlib.Core.List.{List}
+use mathlib.Core.Bool.{true}
 use mathlib.Core.Option.{Option, none, some}
 use lib.ListN.{length}
 use Rattle.laws.specs.Keyed.{In}
@@ -10,14 +11,13 @@ use Rattle.laws.proofs.Places.{none-stored}
 use Rattle.laws.proofs.Put.{rising-one, stored-in, stored-none-in}
 use Rattle.octets.proofs.Runs.{same-bytes, bytes-same}
 use Rattle.numbers.specs.Numbers.{lowerCorrection}
-use Rattle.slice.specs.Record.{recordSize, keyOf, keyLess, sameKey}
+use Rattle.slice.specs.Record.{recordSize, correctionOf, keyOf, keyLess, sameKey}
 use Rattle.slice.specs.Check.{checkSlice}
 use Rattle.slice.specs.declared.check.Checked.the-variants.{Sound}
 use Rattle.slice.proofs.Keys.{key-order}
 use Rattle.table.specs.Header.{sideOf, featureOf, strideOf, roomOf, recordsOf}
 use Rattle.table.specs.Rules.{checkTable}
 use Rattle.table.specs.Arriving.{refusedArrival, recordOf, storedOf, filingOf, arrivalOf}
-use Rattle.table.specs.Deliveries.{correctionNumber}
 use Rattle.table.specs.declared.check.Sides.the-variants.{Both}
 use Rattle.table.specs.declared.arrival.Arrival.{Arrival}
 use Rattle.table.specs.declared.arrival.Arrival.the-variants.{Added, Replaced, Superseded, Repeat}
@@ -31,10 +31,12 @@ pub record Decided (room : ℕ) (r : List ℕ) (rs : List (List ℕ)) (a : Arriv
   pub added : ((x : List ℕ) → In x rs → keyOf x ≡ keyOf r → ⊥) → (length rs ≡ room → ⊥) → a ≡ Added
   pub full : ((x : List ℕ) → In x rs → keyOf x ≡ keyOf r → ⊥) → length rs ≡ room → a ≡ refusedArrival 18
   -- x is the stored record of its kind and sequence
-  pub replaced : (x : List ℕ) → In x rs → keyOf x ≡ keyOf r → correctionNumber x < correctionNumber r → a ≡ Replaced
-  pub superseded : (x : List ℕ) → In x rs → keyOf x ≡ keyOf r → correctionNumber r < correctionNumber x → a ≡ Superseded
-  pub repeated : (x : List ℕ) → In x rs → keyOf x ≡ keyOf r → correctionNumber r ≡ correctionNumber x → r ≡ x → a ≡ Repeat
-  pub clash : (x : List ℕ) → In x rs → keyOf x ≡ keyOf r → correctionNumber r ≡ correctionNumber x → (r ≡ x → ⊥) → a ≡ refusedArrival 17
+  pub replaced : (x : List ℕ) → In x rs → keyOf x ≡ keyOf r → lowerCorrection (correctionOf x) (correctionOf r) ≡ true
+      → a ≡ Replaced
+  pub superseded : (x : List ℕ) → In x rs → keyOf x ≡ keyOf r → lowerCorrection (correctionOf r) (correctionOf x) ≡ true
+      → a ≡ Superseded
+  pub repeated : (x : List ℕ) → In x rs → keyOf x ≡ keyOf r → correctionOf r ≡ correctionOf x → r ≡ x → a ≡ Repeat
+  pub clash : (x : List ℕ) → In x rs → keyOf x ≡ keyOf r → correctionOf r ≡ correctionOf x → (r ≡ x → ⊥) → a ≡ refusedArrival 17
 
 module _ (room : ℕ) (r : List ℕ) (rs : List (List ℕ)) (up : Up rs) where
   new : ((x : List ℕ) → In x rs → keyOf x ≡ keyOf r → ⊥) → storedOf r rs ≡ none
@@ -56,10 +58,14 @@ module _ (room : ℕ) (r : List ℕ) (rs : List (List ℕ)) (up : Up rs) where
   decided = record {
     added = λ h f. filing-new room r rs (new h) f;
     full = λ h f. filing-full room r rs (new h) f;
-    replaced = λ x m e c. filing-held room r rs x (held x m e) ∙ is-replaced r x (omega tests);
-    superseded = λ x m e c. filing-held room r rs x (held x m e) ∙ is-superseded r x (omega tests) (omega tests);
-    repeated = λ x m e c b. filing-held room r rs x (held x m e) ∙ is-repeat r x (omega tests) (omega tests) (bytes-same r x b);
-    clash = λ x m e c b. filing-held room r rs x (held x m e) ∙ is-17 r x (omega tests) (omega tests) (never _ (λ s. b (same-bytes r x s)));
+    replaced = λ x m e c. filing-held room r rs x (held x m e) ∙ is-replaced r x c;
+    superseded = λ x m e c. filing-held room r rs x (held x m e) ∙ is-superseded r x (omega tests) c;
+    repeated =
+        λ x m e c b. filing-held room r rs x (held x m e)
+        ∙ is-repeat r x (omega (tests, ap (λ k. k .0) c)) (omega (tests, ap (λ k. k .0) c)) (bytes-same r x b);
+    clash =
+        λ x m e c b. filing-held room r rs x (held x m e)
+        ∙ is-17 r x (omega (tests, ap (λ k. k .0) c)) (omega (tests, ap (λ k. k .0) c)) (never _ (λ s. b (same-bytes r x s)));
   }
 
 -- THE ANSWERS: where a table passes 1 to 7 and a slice 9 to 16, the answer of the arrival is decided as the table above has it

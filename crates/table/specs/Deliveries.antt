@@ -5,6 +5,7 @@ use mathlib.Core.Bool.{Bool, not}
 use lib.ListN.{length, drop}
 use Rattle.laws.specs.Lists.{kept, joined}
 use Rattle.laws.specs.Keyed.{In, Consistent, Fresh, distinct, afresh}
+use Rattle.numbers.specs.Numbers.{lowerCorrection}
 use Rattle.slice.specs.Record.{correctionOf, keyOf, keyLess, sameKey}
 use Rattle.slice.specs.Check.{checkSlice}
 use Rattle.table.specs.Header.{headerOf}
@@ -23,12 +24,9 @@ passes stride feature side s = not (isRefused (checkSlice stride feature side s)
 abbrev pub sentTo : ℕ → List ℕ → ℕ → List (List ℕ) → List (List ℕ)
 sentTo stride feature side ss = map recordOf (kept (passes stride feature side) ss)
 
-abbrev pub correctionNumber : List ℕ → ℕ
-correctionNumber r = correctionOf r .0
-
 -- no two records of a set are alike in kind, sequence and correction but different in content
 abbrev pub Agree : List (List ℕ) → Type 0
-Agree set = Consistent keyOf keyLess sameKey correctionNumber (λ r. In r set)
+Agree set = Consistent keyOf keyLess sameKey correctionOf lowerCorrection (λ r. In r set)
 
 -- how many kinds and sequences a set has
 abbrev pub pairsIn : List (List ℕ) → ℕ
@@ -36,7 +34,7 @@ pairsIn set = distinct keyOf keyLess sameKey set
 
 -- for each kind and sequence of a set of records the one with the highest correction, in rising order
 unfoldable pub recordsAfresh : List (List ℕ) → List (List ℕ)
-recordsAfresh set = afresh keyOf keyLess sameKey correctionNumber set
+recordsAfresh set = afresh keyOf keyLess sameKey correctionOf lowerCorrection set
 
 -- a buffer that holds records as the table of a side and a feature: its header and count, the records, and every byte beyond
 -- them as it was
@@ -48,6 +46,6 @@ abbrev pub tableAfresh : List ℕ → ℕ → List ℕ → List (List ℕ) → L
 tableAfresh buffer side feature set = holding buffer side feature (recordsAfresh set)
 
 -- what it is to be the records of a set's table: they rise, they are in the set, and each record of the set is covered by one of its
--- kind and sequence with at least its correction
+-- kind and sequence whose correction is not lower
 abbrev pub TableOf : List (List ℕ) → List (List ℕ) → Type 0
-TableOf set rs = Fresh keyOf keyLess sameKey correctionNumber (λ r. In r set) rs
+TableOf set rs = Fresh keyOf keyLess sameKey correctionOf lowerCorrection (λ r. In r set) rs
