@@ -18,6 +18,7 @@ use Rattle.octets.specs.Bytes.{byteOf, beOf, digits, each, there, filled}
 use Rattle.octets.proofs.Runs.{filled-join}
 use Rattle.numbers.specs.Numbers.{noInstant, none, isNone, before, atMost, sameInstant}
 use Rattle.numbers.specs.declared.Instant.{Instant}
+use Rattle.numbers.proofs.Orders.{instant-of}
 use Rattle.slice.specs.Record.{baseline, permdelta, ofSide, recordSize, kindOf, keyLess, sameKey, periodOf, lifeOf, Slice, viewOf}
 use Rattle.slice.specs.declared.check.Checked.the-variants.{Sound}
 use Rattle.slice.proofs.Keys.{key-order}
@@ -34,7 +35,7 @@ use Rattle.history.specs.Anchor.{stands, opens, based, opened, nowhere, only, a
 use Rattle.history.specs.State.{State, applied, appliedAll}
 use Rattle.history.specs.Onward.{changesAt}
 use Rattle.history.specs.Changes.{changesBy, changeInstants, nextOf}
-use Rattle.history.proofs.Orders.{instant-of, counts-kind}
+use Rattle.history.proofs.Orders.{counts-kind}
 use Rattle.history.proofs.Changes.{Changing, Bounded, begin-changing, end-changing, life-changing, delta-changing, changes-from, later, later-next, later-least, walk-below}
 use Rattle.history.proofs.Kept.{kept-nowhere, kept-one, kept-behind}
 use Rattle.state.specs.Asking.{slicesOf}

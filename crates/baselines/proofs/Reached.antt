@@ -11,6 +11,7 @@ use Rattle.laws.proofs.Tests.{tests, and-both}
 use Rattle.octets.specs.Bytes.{Bytes}
 use Rattle.numbers.specs.Numbers.{noInstant, isNone, given, before, atMost}
 use Rattle.numbers.specs.declared.Instant.{Instant}
+use Rattle.numbers.proofs.Orders.{instant-of}
 use Rattle.slice.specs.Record.{baseline, recordSize, keyLess, sameKey, Property, unmentioned, says, lifeOf, Slice, viewOf}
 use Rattle.slice.specs.declared.check.Checked.the-variants.{Sound}
 use Rattle.table.specs.Header.{countOf, strideOf, recordAt}
@@ -22,7 +23,6 @@ use Rattle.history.specs.Anchor.{stands, based, anchor}
 use Rattle.history.specs.State.{State, started, appliedAll}
 use Rattle.history.specs.Permanent.{Standing, refuses, known, withdrawn, unlessWithdrawn, permanentAt}
 use Rattle.history.specs.Onward.{changesAt, NoneBefore}
-use Rattle.history.proofs.Orders.{instant-of}
 use Rattle.history.proofs.Line.{Within, anchor-within, known-same}
 use Rattle.history.proofs.Changes.{begin-changing}
 use Rattle.history.proofs.Onward.{base-begins, anchor-held, on-known, on-refused, on-open}

@@ -16,8 +16,9 @@ use Rattle.laws.proofs.Lists.{map-in}
 use Rattle.laws.proofs.Orders.{true-lex}
 use Rattle.octets.specs.Bytes.{Bytes}
 use Rattle.numbers.specs.Numbers as numbers
-use Rattle.numbers.specs.Numbers.{noInstant}
+use Rattle.numbers.specs.Numbers.{noInstant, lowerSequence}
 use Rattle.numbers.specs.declared.Instant.{Instant}
+use Rattle.numbers.proofs.Orders.{instant-of}
 use Rattle.property.specs.Eight.{mentioned}
 use Rattle.slice.specs.Record.{baseline, permdelta, partsOf, keyLess, sameKey, Property, unmentioned, says, propertyOf, Slice, viewOf}
 use Rattle.slice.specs.declared.record.Life.{Life}
@@ -35,7 +36,7 @@ use Rattle.history.specs.Changes.{changeInstants}
 use Rattle.history.specs.Parts.{tells}
 use Rattle.history.specs.Derived.{Stretch, stretches, filledIn, baselineOf, numberedFrom, derivedBaselines}
 use Rattle.history.specs.Source.{lastOf}
-use Rattle.history.proofs.Orders.{instant-of, counts-kind}
+use Rattle.history.proofs.Orders.{counts-kind}
 use Rattle.history.proofs.Parts.{last-in, timeIn, line-begin, line-end, applied-length}
 use Rattle.history.proofs.Line.{line-in, known-line, line-within}
 use Rattle.history.proofs.Changes.{changes-below}
@@ -174,7 +175,7 @@ module _ (p : List ℕ) (bytes : Bytes p) (sound : checkTable Permanent p ≡ So
   numbered-above n (s ∷ l) b (inr m) = let h = numbered-above (suc n) l b m in (h .0, omega (arith, h .1))
 
   numbered-rising : (n : ℕ) (l : List Stretch) → Rising sliceKey keyLess sameKey (numberedFrom unknown n l)
-  unfolding baselineOf keyLess
+  unfolding baselineOf keyLess lowerSequence
   numbered-rising n [] = tt
   numbered-rising n (s ∷ l) =
       (λ y m. let h = numbered-above (suc n) l y m in true-lex baseline n (y .kind) (y .sequence .0) (inr (sym (h .0), omega (arith, h .1))), numbered-rising (suc n) l)

@@ -4,19 +4,21 @@ use mathlib.Core.Path.{_≡_, refl, sym, ap, ap₂, _∙_, subst}
 use mathlib.Core.List.{List, [], _∷_, _++_, map}
 use mathlib.Core.Bool.{Bool, true, false}
 use mathlib.Core.Logic.{_⊎_, inl, inr, ⊎-elim}
+use lib.Dec.{ltb}
 use Rattle.laws.specs.Lists.{any, kept}
 use Rattle.laws.specs.Keyed.{In}
 use Rattle.laws.proofs.Tests.{tests, pick-ind, by-test, contrary}
 use Rattle.laws.proofs.Lists.{any-some, any-none, none-any, kept-in}
+use Rattle.laws.proofs.Places.{number-order}
 use Rattle.laws.proofs.Fresh.{fresh-unique}
 use Rattle.numbers.specs.Numbers.{noInstant, none, before, sameInstant}
 use Rattle.numbers.specs.declared.Instant.{Instant}
+use Rattle.numbers.proofs.Orders.{instant-order}
 use Rattle.slice.specs.Record.{baseline, Property, unmentioned, says, Slice}
 use Rattle.history.specs.Counted.{counts}
 use Rattle.history.specs.Permanent.{Standing, refuses, known, permanentAt}
 use Rattle.history.specs.Changes.{changesBy, changeInstants, nextOf}
 use Rattle.history.specs.Derived.{hasTwo, twoAnchors, Stretch, stretch, stretchesFrom, stretches, filledIn, baselineOf, numberedFrom, derivedBaselines, asWritten, readBack}
-use Rattle.history.proofs.Orders.{instant-order}
 use Rattle.history.proofs.Kept.{kept-rising, append-in}
 use Rattle.history.proofs.Changes.{Risen, Changing, Bounded, changes-rising, changes-from, changes-given, changes-below, changing-given, begin-changing, end-changing}
 use Rattle.history.proofs.Steady.{Timely, known-life}
@@ -37,13 +39,14 @@ module _ (k : List Instant) where
   -- rising instants that are all among others are what is kept of these
   kept-among : (l : List Instant) → Risen l → Risen k → ((x : Instant) → In x k → In x l) → kept among l ≡ k
   kept-among l up up' within =
-      fresh-unique (λ t. t) before sameInstant instant-order (λ _. 0) (λ x. In x k) (λ a b m n e _. e) (kept among l) k
+      fresh-unique (λ t. t) before sameInstant instant-order (λ _. 0) ltb number-order (λ x. In x k) (λ a b m n e _. e)
+      (kept among l) k
       (record {
         rising = kept-rising (λ t. t) before sameInstant among l up;
         within = λ x m. among-in x (kept-in among l x .0 m .1);
-        covers = λ x m. (x, kept-in among l x .1 (within x m, in-among x m), refl, omega tests);
+        covers = λ x m. (x, kept-in among l x .1 (within x m, in-among x m), refl, refl);
       })
-      (record { rising = up'; within = λ x m. m; covers = λ x m. (x, m, refl, omega tests) })
+      (record { rising = up'; within = λ x m. m; covers = λ x m. (x, m, refl, refl) })
 
 -- where the first of some instants is kept it is the first that is
 next-same : (f : Instant → Bool) (ts : List Instant) → ((x : Instant) → In x ts → x .0 < noInstant) → (nextOf ts ≡ none) ⊎ (f (nextOf ts) ≡ true)

@@ -14,10 +14,10 @@ use Rattle.laws.proofs.Fresh.{sorted-rising, sorted-within, sorted-key}
 use Rattle.numbers.specs.Numbers.{noInstant, none, isNone, given, before, atMost, sameInstant}
 use Rattle.numbers.specs.declared.Instant.{Instant}
 use Rattle.numbers.proofs.Facts.{none-true, none-false}
+use Rattle.numbers.proofs.Orders.{instant-of, instant-order}
 use Rattle.slice.specs.Record.{baseline, permdelta, Slice}
 use Rattle.history.specs.Counted.{counts}
 use Rattle.history.specs.Changes.{changesBy, changeInstants, nextOf}
-use Rattle.history.proofs.Orders.{instant-of, instant-order}
 use Rattle.history.proofs.Kept.{kept-rising, joined-in}
 
 -- instants in strictly rising order

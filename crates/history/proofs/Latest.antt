@@ -11,15 +11,15 @@ use lib.ListN.{length, getD}
 use lib.Dec.{ltb}
 use borrow.Author.Tests.{lt-ltb}
 use Rattle.laws.specs.Lists.{kept}
-use Rattle.laws.specs.Orders.{lexLess}
 use Rattle.laws.specs.Keyed.{In, Rising, sorted}
 use Rattle.laws.proofs.Tests.{tests, pick-ind, by-test, contrary, never, and-both}
 use Rattle.laws.proofs.Lists.{getD-in, kept-in}
-use Rattle.laws.proofs.Orders.{lex-true, true-lex}
+use Rattle.laws.proofs.Orders.{pairLess, lex-true, true-lex}
 use Rattle.laws.proofs.Places.{KeyOrder, less-asym, less-on}
 use Rattle.laws.proofs.Fresh.{sorted-rising, sorted-within, sorted-key, sorted-same}
-use Rattle.numbers.specs.Numbers.{before, atMost, lowerSequence, sameSequence}
+use Rattle.numbers.specs.Numbers.{before, atMost, sameInstant, lowerSequence, sameSequence}
 use Rattle.numbers.specs.declared.Instant.{Instant}
+use Rattle.numbers.proofs.Orders.{sequence-order}
 use Rattle.slice.specs.Record.{permdelta, tempdelta, keyLess, sameKey, Slice}
 use Rattle.history.specs.Counted.{counts, holds, sliceKey}
 use Rattle.history.specs.Anchor.{Anchor, based, opened, nowhere, two}
@@ -27,7 +27,7 @@ use Rattle.history.specs.Permanent.{turnOf, turnLess, sameTurn, after, f
 use Rattle.history.specs.Snapshot.{valid, sequenceIn, passing}
 use Rattle.history.specs.Source.{lastOf}
 use Rattle.history.specs.Parts.{tells, due, Placed, at, latestWith, latestFrom, laterTurn, latestDue, latestValid}
-use Rattle.history.proofs.Orders.{turn-order, sequence-order, counts-kind, counted-one}
+use Rattle.history.proofs.Orders.{turn-order, counts-kind, counted-one}
 use Rattle.history.proofs.Parts.{last-in}
 
 abbrev pub sliceIn : Option Placed → Option Slice
@@ -184,7 +184,7 @@ of-kind kind f one (d ∷ ds) (low, up) =
     (λ y. (λ x m. let (n, z) = kept-in f ds x .0 m in higher (d .kind) (d .sequence .0) (x .kind) (x .sequence .0) (one d y ∙ sym (one x z)) (low x n), of-kind kind f one ds up))
     (λ _. of-kind kind f one ds up)
   where
-    higher : (k a l b : ℕ) → k ≡ l → lexLess k a l b ≡ true → ltb a b ≡ true
+    higher : (k a l b : ℕ) → k ≡ l → pairLess k a l b ≡ true → ltb a b ≡ true
     higher k a l b e h = ⊎-elim (λ m. absurd (omega arith)) (λ (_, m). lt-ltb a b m) (lex-true k a l b h)
 
 last-kept : (f g : Slice → Bool) (v : Option Slice) (slices : List Slice) → lastOf g v (kept f slices) ≡ lastOf (λ d. f d && g d) v slices
@@ -211,7 +211,7 @@ last-valid t slices up q =
 -- ---- the PERMDELTAs that follow an anchor
 -- one that is not earlier than one that follows follows
 after-stays : (a : Anchor) (d e : Slice) → turnLess (turnOf e) (turnOf d) ≡ false → after a d ≡ true → after a e ≡ true
-unfolding before turnLess
+unfolding before sameInstant lowerSequence turnLess
 after-stays (based b) d e n y =
     let ahead : e .period .begin .0 < d .period .begin .0 → ⊥ =
     λ l. contrary (true-lex (e .period .begin .0) (e .sequence .0) (d .period .begin .0) (d .sequence .0) (inl l)) n in

@@ -1,14 +1,27 @@
--- The laws of the Temporality Model on lists of slices.
-pub mod Orders
-pub mod Parts
-pub mod Line
-pub mod Latest
-pub mod Kept
-pub mod Changes
-pub mod Periods
-pub mod Reach
-pub mod Steady
+-- The laws of the Temporality Model on lists of slices, main results first.
+-- derived BASELINEs read back give at each instant the state they derive from, and 20 where there was none
 pub mod ReadBack
+-- deriving from derived BASELINEs is not refused and gives them again
 pub mod Again
+-- the answer at an instant depends only on the slices that reach it
+pub mod Reach
+-- one pass over the slices finds the last mention of each part
+pub mod Latest
+-- each part of a state is what the last slice that tells it says
+pub mod Parts
+-- the slices that make the permanent state, in their order, and what each property comes from
+pub mod Line
+-- the permanent state does not change between change instants, and there is none before the first
+pub mod Steady
+-- the state at one change instant from the state at the one before
 pub mod Onward
+-- a derived BASELINE has right times (15) and content (16)
 pub mod Drawn
+-- the change instants rise, are given, and contain every time at which the state may change
+pub mod Changes
+-- what the other laws need of how long a BASELINE holds and how far it reaches
+pub mod Periods
+-- the order by instant and then sequence number is strict and total
+pub mod Orders
+-- what is kept of a list, and what is in joined lists
+pub mod Kept

@@ -13,8 +13,9 @@ use Rattle.numbers.proofs.Facts.{none-false}
 use Rattle.laws.proofs.Tests.{tests, pick-ind, by-test, contrary, never, and-both, iff}
 use Rattle.laws.proofs.Lists.{kept-in}
 use Rattle.laws.proofs.Orders.{true-lex, lex-true}
+use Rattle.laws.proofs.Places.{number-order}
 use Rattle.laws.proofs.Fresh.{sorted-rising, sorted-within, sorted-key, fresh-unique}
-use Rattle.numbers.specs.Numbers.{noInstant, none, isNone, given, before, atMost, sameInstant}
+use Rattle.numbers.specs.Numbers.{noInstant, none, isNone, given, before, atMost, sameInstant, lowerSequence}
 use Rattle.numbers.specs.declared.Instant.{Instant}
 use Rattle.slice.specs.Record.{baseline, permdelta, keyLess, sameKey, Slice}
 use Rattle.history.specs.Counted.{counts, holds, sliceKey}
@@ -96,7 +97,7 @@ append-rising (x ∷ l) k (low, up) over h =
 -- slices of one kind and one instant rise in their turn
 level-rising : (kind n : ℕ) (l : List Slice) → Rising sliceKey keyLess sameKey l → ((x : Slice) → In x l → (x .kind ≡ kind) × (x .period .begin .0 ≡ n))
     → Rising turnOf turnLess sameTurn l
-unfolding keyLess turnLess
+unfolding keyLess turnLess before sameInstant lowerSequence
 level-rising kind n [] up h = tt
 level-rising kind n (x ∷ l) (low, up) h = (
   λ y m. let (p, q) = h x (inl refl) in
@@ -108,7 +109,7 @@ level-rising kind n (x ∷ l) (low, up) h = (
 
 -- one that begins earlier has the earlier turn
 earlier : (x y : Slice) → x .period .begin .0 < y .period .begin .0 → turnLess (turnOf x) (turnOf y) ≡ true
-unfolding turnLess
+unfolding turnLess before sameInstant lowerSequence
 earlier x y l = true-lex (x .period .begin .0) (x .sequence .0) (y .period .begin .0) (y .sequence .0) (inl l)
 
 -- ---- two instants with no change between
@@ -147,23 +148,24 @@ module _ (slices : List Slice) (up : Rising sliceKey keyLess sameKey slices) (u 
     follower-is v d m c l k = let p : atMost (d .period .begin) v ≡ true = omega tests in kept-in (follows v a) slices d .1 (m, rw (c, p, k))
 
     -- two of one turn are one
-    agree : Consistent turnOf turnLess sameTurn (λ d. 0) Follower
+    agree : Consistent turnOf turnLess sameTurn (λ d. 0) ltb Follower
     agree x y m n e c =
         let (i, p) = kept-in (follows t a) slices x .0 m in
         let (j, q) = kept-in (follows t a) slices y .0 n in
         counted-one permdelta slices up x y i j (followed t a x p .0) (followed t a y q .0) (ap (λ k. k .sequence) e)
 
     -- the list by t has them all, in their turn
-    by-t : Fresh turnOf turnLess sameTurn (λ d. 0) Follower (following t slices a)
+    by-t : Fresh turnOf turnLess sameTurn (λ d. 0) ltb Follower (following t slices a)
     unfolding following
     by-t = record {
       rising = sorted-rising turnOf turnLess sameTurn turn-order (kept (follows t a) slices);
       within = sorted-within turnOf turnLess sameTurn turn-order (kept (follows t a) slices);
-      covers = λ d m. let (x, n, e) = sorted-key turnOf turnLess sameTurn turn-order (kept (follows t a) slices) d m in (x, n, e, omega tests);
+      covers =
+          λ d m. let (x, n, e) = sorted-key turnOf turnLess sameTurn turn-order (kept (follows t a) slices) d m in (x, n, e, refl);
     }
 
     -- so has the list by u with those of t behind it
-    by-u : Fresh turnOf turnLess sameTurn (λ d. 0) Follower (following u slices a ++ here)
+    by-u : Fresh turnOf turnLess sameTurn (λ d. 0) ltb Follower (following u slices a ++ here)
     unfolding following
     by-u = record {
       rising = append-rising (following u slices a) here (sorted-rising turnOf turnLess sameTurn turn-order (kept (follows u a) slices))
@@ -182,14 +184,17 @@ module _ (slices : List Slice) (up : Rising sliceKey keyLess sameKey slices) (u 
           let (c, l, k) = followed t a d p in
           ⊎-elim
           (λ s. let (x, n, e) = sorted-key turnOf turnLess sameTurn turn-order (kept (follows u a) slices) d (follower-is u d i c s k) in
-          (x, append-in (following u slices a) here x .1 (inl n), e, omega tests))
-          (λ s. (d, append-in (following u slices a) here d .1 (inr (kept-in (changesAt t) slices d .1 (i, at-t d c s))), refl, omega tests))
+          (x, append-in (following u slices a) here x .1 (inl n), e, refl))
+          (λ s. let n = kept-in (changesAt t) slices d .1 (i, at-t d c s) in
+          (d, append-in (following u slices a) here d .1 (inr n), refl, refl))
           (split (d .period .begin) (delta-changing slices d i c) l);
     }
 
     -- so they are one: those that follow it by t are those by u, and behind them those of t as they stand
     following-on : following t slices a ≡ following u slices a ++ here
-    following-on = fresh-unique turnOf turnLess sameTurn turn-order (λ d. 0) Follower agree (following t slices a) (following u slices a ++ here) by-t by-u
+    following-on =
+        fresh-unique turnOf turnLess sameTurn turn-order (λ d. 0) ltb number-order Follower agree (following t slices a)
+        (following u slices a ++ here) by-t by-u
 
     -- what is reached from it by t is what was by u with those of t applied
     reached-on : (x : Slice) → reached t slices a x ≡ unlessWithdrawn t (appliedAll (appliedAll (started x) (following u slices a)) here)

@@ -16,6 +16,7 @@ use Rattle.laws.proofs.Fresh.{sorted-within}
 use Rattle.numbers.specs.Numbers.{none as noTime, isNone, given, lowerSequence, sameSequence}
 use Rattle.numbers.specs.declared.Instant.{Instant}
 use Rattle.numbers.proofs.Facts.{none-true}
+use Rattle.numbers.proofs.Orders.{sequence-order}
 use Rattle.slice.specs.declared.record.Life.{Life}
 use Rattle.slice.specs.Record.{Property, unmentioned, says, isMentioned, Slice}
 use Rattle.history.specs.Anchor.{Anchor}
@@ -24,7 +25,7 @@ use Rattle.history.specs.Permanent.{turnOf, turnLess, sameTurn, follows,
 use Rattle.history.specs.Snapshot.{valid, sequenceIn, passing}
 use Rattle.history.specs.Source.{mentions, lastOf, lastMention}
 use Rattle.history.specs.Parts.{tells}
-use Rattle.history.proofs.Orders.{turn-order, sequence-order}
+use Rattle.history.proofs.Orders.{turn-order}
 
 -- ---- the last of some slices that passes a test
 module _ (test : Slice → Bool) where

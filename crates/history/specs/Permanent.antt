@@ -5,7 +5,7 @@ use mathlib.Core.List.{List}
 use Rattle.laws.specs.Lists.{kept}
 use Rattle.laws.specs.Orders.{lexLess}
 use Rattle.laws.specs.Keyed.{sorted}
-use Rattle.numbers.specs.Numbers.{given, before, atMost, sameInstant, sameSequence}
+use Rattle.numbers.specs.Numbers.{given, before, atMost, sameInstant, lowerSequence, sameSequence}
 use Rattle.numbers.specs.declared.Instant.{Instant}
 use Rattle.numbers.specs.declared.SequenceNumber.{SequenceNumber}
 use Rattle.slice.specs.Record.{permdelta, Slice}
@@ -22,7 +22,8 @@ abbrev pub turnOf : Slice → Turn
 turnOf d = record { instant = d .period .begin; sequence = d .sequence }
 
 unfoldable pub turnLess : Turn → Turn → Bool
-turnLess a b = lexLess (a .instant .0) (a .sequence .0) (b .instant .0) (b .sequence .0)
+turnLess a b =
+    lexLess (before (a .instant) (b .instant)) (sameInstant (a .instant) (b .instant)) (lowerSequence (a .sequence) (b .sequence))
 
 unfoldable pub sameTurn : Turn → Turn → Bool
 sameTurn a b = sameInstant (a .instant) (b .instant) && sameSequence (a .sequence) (b .sequence)

@@ -6,7 +6,7 @@ use borrow.Author.Tests.{eqb-true, eq-eqb}
 use Rattle.laws.proofs.Tests.{and-both}
 use Rattle.laws.proofs.Orders.{lex-irrefl, lex-trans, lex-total}
 use Rattle.laws.proofs.Places.{KeyOrder}
-use Rattle.numbers.specs.Numbers.{sameSequence}
+use Rattle.numbers.specs.Numbers.{lowerSequence, sameSequence}
 use Rattle.slice.specs.Record.{keyLess, sameKey}
 use Rattle.slice.specs.declared.record.Key.{Key}
 
@@ -15,15 +15,15 @@ key-of : (a b : Key) → a .kind ≡ b .kind → a .sequence .0 ≡ b .sequence 
 key-of a b p q i = record { kind = p i; sequence = record { 0 = q i } }
 
 pub key-irrefl : (a : Key) → keyLess a a ≡ true → ⊥
-unfolding keyLess
+unfolding keyLess lowerSequence
 key-irrefl a = lex-irrefl (a .kind) (a .sequence .0)
 
 pub key-trans : (a b c : Key) → keyLess a b ≡ true → keyLess b c ≡ true → keyLess a c ≡ true
-unfolding keyLess
+unfolding keyLess lowerSequence
 key-trans a b c = lex-trans (a .kind) (a .sequence .0) (b .kind) (b .sequence .0) (c .kind) (c .sequence .0)
 
 pub key-total : (a b : Key) → keyLess a b ≡ false → keyLess b a ≡ false → a ≡ b
-unfolding keyLess
+unfolding keyLess lowerSequence
 key-total a b p q =
     let e = lex-total (a .kind) (a .sequence .0) (b .kind) (b .sequence .0) p q in
     key-of a b (e .0) (e .1)

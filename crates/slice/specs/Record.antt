@@ -3,10 +3,10 @@ use Prim.Native.Nat.{ℕ, _+_, _*_, _%_}
 use mathlib.Core.List.{List, map}
 use mathlib.Core.Bool.{Bool, true, false, cond, _&&_, _||_}
 use lib.ListN.{drop}
-use lib.Dec.{eqb}
+use lib.Dec.{ltb, eqb}
 use Rattle.laws.specs.Orders.{lexLess}
 use Rattle.octets.specs.Bytes.{byteOf, beOf}
-use Rattle.numbers.specs.Numbers.{sameSequence}
+use Rattle.numbers.specs.Numbers.{lowerSequence, sameSequence}
 use Rattle.numbers.specs.declared.SequenceNumber.{SequenceNumber}
 use Rattle.numbers.specs.declared.CorrectionNumber.{CorrectionNumber}
 use Rattle.property.specs.Eight.{propertiesOf, mentioned}
@@ -75,7 +75,7 @@ abbrev pub keyOf : List ℕ → Key
 keyOf r = record { kind = kindOf r; sequence = sequenceOf r }
 
 unfoldable pub keyLess : Key → Key → Bool
-keyLess a b = lexLess (a .kind) (a .sequence .0) (b .kind) (b .sequence .0)
+keyLess a b = lexLess (ltb (a .kind) (b .kind)) (eqb (a .kind) (b .kind)) (lowerSequence (a .sequence) (b .sequence))
 
 unfoldable pub sameKey : Key → Key → Bool
 sameKey a b = eqb (a .kind) (b .kind) && sameSequence (a .sequence) (b .sequence)

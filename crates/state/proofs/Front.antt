@@ -9,6 +9,7 @@ use lib.Dec.{eqb}
 use Rattle.laws.specs.Keyed.{In, Rising}
 use Rattle.laws.proofs.Tests.{tests}
 use Rattle.laws.proofs.Orders.{lex-true}
+use Rattle.numbers.specs.Numbers.{lowerSequence}
 use Rattle.numbers.specs.declared.Instant.{Instant}
 use Rattle.slice.specs.Record.{baseline, permdelta, keyLess, sameKey, Slice}
 use Rattle.history.specs.Counted.{counts, sliceKey}
@@ -17,7 +18,7 @@ use Rattle.history.specs.Parts.{tells, due, opensDue}
 
 -- a slice of a kind above BASELINE, and all behind it
 pub kinds-rise : (d : Slice) (ds : List Slice) → Rising sliceKey keyLess sameKey (d ∷ ds) → baseline < d .kind → (x : Slice) → In x (d ∷ ds) → baseline < x .kind
-unfolding keyLess
+unfolding keyLess lowerSequence
 kinds-rise d ds up h x (inl e) = rw e h
 kinds-rise d ds (low, up) h x (inr m) =
     ⊎-elim (λ l. omega arith) (λ (e, l). omega arith) (lex-true (d .kind) (d .sequence .0) (x .kind) (x .sequence .0) (low x m))

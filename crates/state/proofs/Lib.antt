@@ -1,20 +1,39 @@
--- What the proofs cite, and the laws for the floors above.
-pub mod Slices
-pub mod Written
-pub mod Views
-pub mod Walks
-pub mod Marks
-pub mod Front
-pub mod Anchors
-pub mod Settled
-pub mod Surveyed
-pub mod Filled
-pub mod Pasting
-pub mod Placed
-pub mod Handed
-pub mod Reach
-pub mod Replies
-pub mod Stages
-pub mod Agrees
-pub mod Refused
+-- The laws of the questions about an instant, main results first.
+-- each public promise asks nothing and leaves one answer and one content of the lent memory
 pub mod OneAnswer
+-- an arrival changes an answer only within the reach of the slice or of the record that it replaces
+pub mod Reach
+-- the questions agree: each property of a snapshot is the part that the property question returns
+pub mod Agrees
+-- the snapshot and the property question are refused alike, but for the buffer
+pub mod Refused
+-- what the property question returns goes by the slices alone: the table, and the bytes of the last mention
+pub mod Handed
+-- what a question returns is told apart by its numbers
+pub mod Replies
+-- where a property begins, that it lies within its table, and the bytes there
+pub mod Placed
+-- the record written is that of the state: its life times and its eight properties
+pub mod Filled
+-- what one pass over a permanent table finds is the permanent state
+pub mod Settled
+-- what the pass over a permanent table hands on to the search for the anchor
+pub mod Surveyed
+-- what the search for the anchor finds, from the counts of candidates
+pub mod Anchors
+-- the pass keeps, for each part, the mark of its latest mention
+pub mod Marks
+-- the BASELINEs of a permanent table stand in front
+pub mod Front
+-- the questions, one test after the other
+pub mod Stages
+-- the slices of a table are the views of its records, place by place
+pub mod Slices
+-- what a record's bytes say, field by field
+pub mod Views
+-- one turn of a loop over a table's records
+pub mod Walks
+-- the record of a state, property by property
+pub mod Written
+-- parts of a state's record, written one behind the other
+pub mod Pasting

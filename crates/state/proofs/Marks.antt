@@ -9,20 +9,19 @@ use native.Mathlib.Omega.{arith}
 use lib.ListN.{length, getD, drop, set}
 use lib.Dec.{eqb, ltb, leb}
 use lib.Seq.{getD-set-same, getD-set-other}
-use Rattle.laws.specs.Orders.{lexLess}
 use Rattle.laws.specs.Keyed.{In}
 use Rattle.laws.proofs.Tests.{tests, by-test, contrary, and-both, or-either}
 use Rattle.slice.specs.Record.{Slice}
 use Rattle.history.specs.Permanent.{turnLess}
 use Rattle.history.specs.Parts.{tells, Placed, passFrom, laterTurn, latestWith}
-use Rattle.state.specs.Steps.{laterOf, among, wanted, markOf, markDue, placeAndOne, oneMore, tallyWith, afterStart, originOf}
+use Rattle.state.specs.Steps.{turnIn, laterOf, among, wanted, markOf, markDue, placeAndOne, oneMore, tallyWith, afterStart, originOf}
 use Rattle.state.specs.declared.anchor.Few.{Few}
 use Rattle.state.specs.declared.anchor.Start.{Start}
 use Rattle.state.specs.declared.mention.Mark.{Mark}
 
 -- ---- of two mentions the later one
 abbrev pub behind : Mark → Mark → Bool
-behind m n = lexLess (m .instant .0) (m .sequence .0) (n .instant .0) (n .sequence .0)
+behind m n = turnLess (turnIn m) (turnIn n)
 
 module _ (b : Bool) (n m : Mark) where
   pub later-not : b ≡ false → m ≡ laterOf b n m
@@ -161,11 +160,11 @@ module _ (f : Slice → Bool) (q i : ℕ) (d : Slice) (e : f d ≡ true) where
   passed s = f s && tells q s
 
   pub mark-turn : (o : Option Placed) → laterOf (tells q d) (markOf i d) (markDue o) ≡ markDue (latestWith laterTurn passed o i d)
-  unfolding laterOf turnLess
+  unfolding laterOf
   mark-turn none = rw e (by-test (tells q d) (λ y. rw y) (λ y. rw y))
   mark-turn (some b) =
       let z : eqb (b .place + 1) 0 ≡ false = omega tests in
-      rw (e, z) (by-test (tells q d) (λ y. rw y (by-test (lexLess (b .slice .period .begin .0) (b .slice .sequence .0) (d .period .begin .0) (d .sequence .0)) (λ z. rw z) (λ z. rw z))) (λ y. rw y))
+      rw (e, z) (by-test (tells q d) (λ y. rw y (by-test (laterTurn (b .slice) d) (λ z. rw z) (λ z. rw z))) (λ y. rw y))
 
   pub place-turn : (o : Option Placed) → cond (tells q d) (i + 1) (placeAndOne o) ≡ placeAndOne (latestWith (λ a b. true) passed o i d)
   place-turn none = rw e (by-test (tells q d) (λ y. rw y) (λ y. rw y))

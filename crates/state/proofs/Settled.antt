@@ -20,7 +20,7 @@ use Rattle.table.specs.Header.{countOf, strideOf, roomOf, recordAt}
 use Rattle.history.specs.Counted.{counts, sliceKey}
 use Rattle.history.specs.Anchor.{stands, opens, Anchor, based, opened, nowhere, two, only, anchor}
 use Rattle.history.specs.State.{State, started, appliedAll}
-use Rattle.history.specs.Permanent.{turnLess, after, following, refuses, known, withdrawn, unlessWithdrawn, reached, standingFrom, permanentAt}
+use Rattle.history.specs.Permanent.{after, following, refuses, known, withdrawn, unlessWithdrawn, reached, standingFrom, permanentAt}
 use Rattle.history.specs.Snapshot.{valid, passing}
 use Rattle.history.specs.Source.{lastOf}
 use Rattle.history.specs.Parts.{tells, due, opensDue, Placed, latestFrom, laterTurn, latestDue, latestValid}
@@ -172,7 +172,7 @@ startHere p b i = startAt b i (recordAt (recordSize (strideOf p)) i p)
 
 -- a mention comes after the start where its slice follows the anchor
 after-start : (p : List ℕ) (b : Bool) (i j : ℕ) (d : Slice) → afterStart (startHere p b i) (markOf j d) ≡ after (anchorBy b (sliceHere p i)) d
-unfolding afterStart viewOf turnLess
+unfolding afterStart viewOf
 after-start p true i j d = refl
 after-start p false i j d = refl
 

@@ -5,7 +5,6 @@ use mathlib.Core.List.{List, [], _++_}
 use mathlib.Core.Option.{Option, none, some}
 use lib.ListN.{getD, take, drop}
 use lib.Dec.{ltb, leb, eqb}
-use Rattle.laws.specs.Orders.{lexLess}
 use Rattle.laws.specs.Refusals.{refuse}
 use Rattle.numbers.specs.Numbers as numbers
 use Rattle.numbers.specs.Numbers.{given, before, atMost}
@@ -16,6 +15,7 @@ use Rattle.table.specs.Header.{strideOf, recordAt}
 use Rattle.history.specs.Counted.{counts, holds}
 use Rattle.history.specs.Parts.{tells, Placed, passFrom}
 use Rattle.history.specs.Permanent as State
+use Rattle.history.specs.Permanent.{Turn, turnLess}
 use Rattle.state.specs.Written.{nilUnknown}
 use Rattle.state.specs.Asking.{writingTests, refusedOutcome, outcomeOf}
 use Rattle.state.specs.declared.answer.Outcome.{Outcome}
@@ -38,9 +38,13 @@ leftOf p at buffer s = refuse refusedOutcome (writingTests p at buffer) (outcome
 abbrev pub nothing : Mark
 nothing = record { from = 0; instant = record { 0 = 0 }; sequence = record { 0 = 0 } }
 
+-- the turn of a mention: by instant, then sequence number
+abbrev pub turnIn : Mark → Turn
+turnIn m = record { instant = m .instant; sequence = m .sequence }
+
 -- a new mention where it is one and none is later
 unfoldable pub laterOf : Bool → Mark → Mark → Mark
-laterOf given′ n m = cond (given′ && (eqb (m .from) 0 || lexLess (m .instant .0) (m .sequence .0) (n .instant .0) (n .sequence .0))) n m
+laterOf given′ n m = cond (given′ && (eqb (m .from) 0 || turnLess (turnIn m) (turnIn n))) n m
 
 -- q is a part from one up to another; or a life time
 unfoldable pub among : ℕ → ℕ → ℕ → Bool
@@ -95,7 +99,7 @@ Below n More = Unit {0}
 unfoldable pub afterStart : Start → Mark → Bool
 afterStart s m =
     cond (s .based) (before (s .begin) (m .instant))
-    (lexLess (s .begin .0) (s .sequence .0) (m .instant .0) (m .sequence .0))
+    (turnLess (record { instant = s .begin; sequence = s .sequence }) (turnIn m))
 
 -- who tells a part last, by its place and one
 unfoldable pub originOf : Start → Bool → Mark → ℕ

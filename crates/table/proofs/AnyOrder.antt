@@ -11,11 +11,13 @@ use Rattle.laws.specs.Keyed.{In, delivered}
 use Rattle.laws.proofs.Lists.{kept-in, map-in, in-map}
 use Rattle.laws.proofs.Fresh.{fresh-unique, afresh-fresh}
 use Rattle.laws.proofs.Deliveries.{delivered-afresh, afresh-same, distinct-same}
-use Rattle.slice.specs.Record.{recordSize, keyOf, keyLess, sameKey}
+use Rattle.numbers.specs.Numbers.{lowerCorrection}
+use Rattle.numbers.proofs.Orders.{correction-order}
+use Rattle.slice.specs.Record.{recordSize, correctionOf, keyOf, keyLess, sameKey}
 use Rattle.slice.proofs.Keys.{key-order}
 use Rattle.table.specs.Header.{stride1, roomOf, written}
 use Rattle.table.specs.Arriving.{recordOf, creationOf, created}
-use Rattle.table.specs.Deliveries.{deliveredTo, passes, sentTo, Delivers, correctionNumber, Agree, pairsIn, recordsAfresh, holding, tableAfresh, TableOf}
+use Rattle.table.specs.Deliveries.{deliveredTo, passes, sentTo, Delivers, Agree, pairsIn, recordsAfresh, holding, tableAfresh, TableOf}
 use Rattle.table.specs.declared.create.Creation.the-variants.{Made}
 use Rattle.table.proofs.Delivered.{deliveries, new-room, new-feature, new-written, new-empty, new-sound}
 
@@ -37,10 +39,12 @@ module _ (buffer : List ℕ) (side : ℕ) (feature : List ℕ) (named : length f
       ap (λ (x : List ℕ). deliveredTo x ss) (sym (new-empty buffer side feature named made))
       ∙ deliveries (created Made buffer side feature) (new-sound buffer side feature named made) ss [] (record { good = λ r m. absurd m; up = tt; fits = omega arith })
       ∙ (λ i. written (created Made buffer side feature)
-      (delivered keyOf keyLess sameKey correctionNumber (new-room buffer side feature named made (recordSize stride1) i) []
+      (delivered keyOf keyLess sameKey correctionOf lowerCorrection
+      (new-room buffer side feature named made (recordSize stride1) i) []
       (sentTo stride1 (new-feature buffer side feature named made i) side ss)))
       ∙ ap (written (created Made buffer side feature))
-      (delivered-afresh keyOf keyLess sameKey key-order correctionNumber (roomOf (recordSize stride1) buffer) (sent feature side ss) agree fit)
+      (delivered-afresh keyOf keyLess sameKey key-order correctionOf lowerCorrection correction-order
+      (roomOf (recordSize stride1) buffer) (sent feature side ss) agree fit)
       ∙ new-written buffer side feature named made (recordsAfresh (sent feature side ss))
 
   -- slices that send the same records make the same bytes
@@ -53,7 +57,9 @@ module _ (buffer : List ℕ) (side : ℕ) (feature : List ℕ) (named : length f
       let fit' : pairsIn (sent feature side us) ≤ roomOf (recordSize stride1) buffer =
       rw (← distinct-same keyOf keyLess sameKey key-order (sent feature side ss) (sent feature side us) same) fit in
       any-order ss agree fit
-      ∙ ap (holding buffer side feature) (afresh-same keyOf keyLess sameKey key-order correctionNumber (sent feature side ss) (sent feature side us) same agree)
+      ∙ ap (holding buffer side feature)
+      (afresh-same keyOf keyLess sameKey key-order correctionOf lowerCorrection correction-order
+      (sent feature side ss) (sent feature side us) same agree)
       ∙ sym (any-order us agree' fit')
 
   -- TWO ORDERS of one set of slices make the same bytes
@@ -78,7 +84,9 @@ module _ (buffer : List ℕ) (side : ℕ) (feature : List ℕ) (named : length f
       let fit' : pairsIn (sent feature side ss) ≤ roomOf (recordSize stride1) buffer =
       rw (← distinct-same keyOf keyLess sameKey key-order (map recordOf set) (sent feature side ss) same) fit in
       any-order ss agree' fit'
-      ∙ ap (holding buffer side feature) (sym (afresh-same keyOf keyLess sameKey key-order correctionNumber (map recordOf set) (sent feature side ss) same agree))
+      ∙ ap (holding buffer side feature)
+      (sym (afresh-same keyOf keyLess sameKey key-order correctionOf lowerCorrection correction-order
+      (map recordOf set) (sent feature side ss) same agree))
     where
       test : List ℕ → Bool
       test = passes stride1 feature side
@@ -95,8 +103,10 @@ module _ (buffer : List ℕ) (side : ℕ) (feature : List ℕ) (named : length f
 -- WHAT AFRESH MEANS: the records worked out afresh are a table of the set
 pub afresh-is : (set : List (List ℕ)) → TableOf set (recordsAfresh set)
 unfolding recordsAfresh
-afresh-is set = afresh-fresh keyOf keyLess sameKey key-order correctionNumber set
+afresh-is set = afresh-fresh keyOf keyLess sameKey key-order correctionOf lowerCorrection correction-order set
 
 -- and where the set agrees with itself nothing else is
 pub only-afresh : (set rs : List (List ℕ)) → Agree set → TableOf set rs → rs ≡ recordsAfresh set
-only-afresh set rs agree f = fresh-unique keyOf keyLess sameKey key-order correctionNumber (λ r. In r set) agree rs (recordsAfresh set) f (afresh-is set)
+only-afresh set rs agree f =
+    fresh-unique keyOf keyLess sameKey key-order correctionOf lowerCorrection correction-order (λ r. In r set) agree rs
+    (recordsAfresh set) f (afresh-is set)

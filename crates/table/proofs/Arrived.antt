@@ -12,11 +12,11 @@ use borrow.Author.Tests.{le-ltb}
 use Rattle.laws.specs.Keyed.{stored, put, against}
 use Rattle.laws.specs.Refusals.{test}
 use Rattle.laws.proofs.Tests.{pick-ind}
-use Rattle.slice.specs.Record.{recordSize, keyOf, keyLess, sameKey}
+use Rattle.numbers.specs.Numbers.{lowerCorrection}
+use Rattle.slice.specs.Record.{recordSize, correctionOf, keyOf, keyLess, sameKey}
 use Rattle.table.specs.Header.{sideOf, strideOf, recordsOf, roomOf, written}
 use Rattle.table.specs.Rules.{takes, tableTests}
 use Rattle.table.specs.Arriving.{recordOf, arrivedAt}
-use Rattle.table.specs.Deliveries.{correctionNumber}
 use Rattle.table.specs.declared.check.Sides.{Sides}
 use Rattle.table.specs.declared.check.Sides.the-variants.{Both}
 use Rattle.table.proofs.Sound.{SoundTable, sound-table}
@@ -81,9 +81,11 @@ module _ (t s : List ℕ) where
   made-put : LeftOrPut (made t s)
   made-put = go (stored keyOf keyLess sameKey (keyOf (recordOf s)) (recordsOf size t))
     where
-      go : (o : Option (List ℕ)) → LeftOrPut (against keyOf keyLess sameKey correctionNumber (roomOf size t) (recordOf s) (recordsOf size t) o)
+      go : (o : Option (List ℕ))
+          → LeftOrPut (against keyOf keyLess sameKey correctionOf lowerCorrection (roomOf size t) (recordOf s) (recordsOf size t) o)
       go none = pick-ind LeftOrPut (eqb (length (recordsOf size t)) (roomOf size t)) (λ _. inl refl) (λ _. inr refl)
-      go (some x) = pick-ind LeftOrPut (ltb (correctionNumber x) (correctionNumber (recordOf s))) (λ _. inr refl) (λ _. inl refl)
+      go (some x) =
+          pick-ind LeftOrPut (lowerCorrection (correctionOf x) (correctionOf (recordOf s))) (λ _. inr refl) (λ _. inl refl)
 
   pub arrival-records : LeftOrPut (recordsOf size (arrivedAt t s))
   arrival-records =

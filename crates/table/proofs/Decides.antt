@@ -2,6 +2,7 @@
 use Prim.Native.Nat.{ℕ}
 use mathlib.Core.Path.{_≡_, refl, sym, ap, _∙_}
 use mathlib.Core.List.{List}
+use mathlib.Core.Bool.{true}
 use mathlib.Core.Option.{Option, none, some}
 use lib.ListN.{length}
 use Rattle.laws.specs.Keyed.{In}
@@ -10,7 +11,6 @@ use Rattle.laws.proofs.Places.{none-stored}
 use Rattle.laws.proofs.Put.{rising-one, stored-in, stored-none-in}
 use Rattle.octets.proofs.Runs.{same-bytes, bytes-same}
 use Rattle.numbers.specs.Numbers.{lowerCorrection}
-use Rattle.numbers.specs.declared.CorrectionNumber.{CorrectionNumber}
 use Rattle.slice.specs.Record.{recordSize, correctionOf, keyOf, keyLess, sameKey}
 use Rattle.slice.specs.Check.{checkSlice}
 use Rattle.slice.specs.declared.check.Checked.the-variants.{Sound}
@@ -39,9 +39,6 @@ module _ (room : ℕ) (r : List ℕ) (rs : List (List ℕ)) (up : Up rs) where
           let q = stored-in keyOf keyLess sameKey key-order (keyOf r) rs y p in
           p ∙ ap some (rising-one keyOf keyLess sameKey key-order rs up y x (q .0) m (q .1 ∙ sym e))
 
-  number : (x : List ℕ) → correctionOf r ≡ correctionOf x → correctionOf r .0 ≡ correctionOf x .0
-  number x c = ap (λ (k : CorrectionNumber). k .0) c
-
   decided : Decided room r rs (filingOf room r rs)
   unfolding lowerCorrection
   decided = record {
@@ -49,8 +46,12 @@ module _ (room : ℕ) (r : List ℕ) (rs : List (List ℕ)) (up : Up rs) where
     full = λ h f. filing-full room r rs (new h) f;
     replaced = λ x m e c. filing-held room r rs x (held x m e) ∙ is-replaced r x c;
     superseded = λ x m e c. filing-held room r rs x (held x m e) ∙ is-superseded r x (omega tests) c;
-    repeated = λ x m e c b. let k = number x c in filing-held room r rs x (held x m e) ∙ is-repeat r x (omega tests) (omega tests) (bytes-same r x b);
-    clash = λ x m e c b. let k = number x c in filing-held room r rs x (held x m e) ∙ is-17 r x (omega tests) (omega tests) (never _ (λ s. b (same-bytes r x s)));
+    repeated =
+        λ x m e c b. filing-held room r rs x (held x m e)
+        ∙ is-repeat r x (omega (tests, ap (λ k. k .0) c)) (omega (tests, ap (λ k. k .0) c)) (bytes-same r x b);
+    clash =
+        λ x m e c b. filing-held room r rs x (held x m e)
+        ∙ is-17 r x (omega (tests, ap (λ k. k .0) c)) (omega (tests, ap (λ k. k .0) c)) (never _ (λ s. b (same-bytes r x s)));
   }
 
 -- THE ANSWERS: where a table passes 1 to 7 and a slice 9 to 16, the answer of the arrival is decided as the table above has it

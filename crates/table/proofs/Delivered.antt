@@ -18,7 +18,8 @@ use Rattle.octets.specs.Bytes.{filled}
 use Rattle.octets.specs.Writing.{bytesOf}
 use Rattle.octets.proofs.Readers.{be-whole}
 use Rattle.octets.proofs.Runs.{filled-drop}
-use Rattle.slice.specs.Record.{recordSize, keyOf, keyLess, sameKey}
+use Rattle.numbers.specs.Numbers.{lowerCorrection}
+use Rattle.slice.specs.Record.{recordSize, correctionOf, keyOf, keyLess, sameKey}
 use Rattle.slice.specs.Check.{checkSlice}
 use Rattle.slice.specs.declared.check.Checked.{Checked}
 use Rattle.slice.specs.declared.check.Checked.the-variants.{Sound, Refused}
@@ -26,7 +27,7 @@ use Rattle.slice.proofs.Sound.{sound-slice}
 use Rattle.table.specs.Header.{lettered, sideOf, countOf, featureOf, strideOf, headerOf, roomOf, recordsOf, written}
 use Rattle.table.specs.Rules.{fails, inOrder, checkTable}
 use Rattle.table.specs.Arriving.{recordOf, filingOf, changed, filed, arrivedAt, creationOf, created}
-use Rattle.table.specs.Deliveries.{deliveredTo, sentTo, correctionNumber, holding}
+use Rattle.table.specs.Deliveries.{deliveredTo, sentTo, holding}
 use Rattle.table.specs.declared.check.Sides.the-variants.{Both}
 use Rattle.table.specs.declared.create.Creation.the-variants.{Made}
 use Rattle.table.proofs.Made.{made-facts}
@@ -70,7 +71,7 @@ module _ (t : List ℕ) (h : SoundTable (strideOf t) Both t) where
 
     module _ (s : List ℕ) (d : checkSlice stride (featureOf t) (sideOf t) s ≡ Sound) where
       abbrev us : List (List ℕ)
-      us = arrived keyOf keyLess sameKey correctionNumber room (recordOf s) rs
+      us = arrived keyOf keyLess sameKey correctionOf lowerCorrection room (recordOf s) rs
 
       keeps : Kept keyOf keyLess sameKey (Good stride (sideOf t)) room rs us
       keeps = arrival-keeps stride (sideOf t) room rs (recordOf s) (f .up) (f .fits) (f .good) (sound-slice _ _ _ s d .sound)
@@ -104,14 +105,16 @@ module _ (t : List ℕ) (h : SoundTable (strideOf t) Both t) where
   abbrev Delivers : List (List ℕ) → Type 0
   Delivers ss =
       (rs : List (List ℕ)) → Fitting rs
-      → deliveredTo (written t rs) ss ≡ written t (delivered keyOf keyLess sameKey correctionNumber room rs (sentTo stride (featureOf t) (sideOf t) ss))
+      → deliveredTo (written t rs) ss ≡ written t
+      (delivered keyOf keyLess sameKey correctionOf lowerCorrection room rs (sentTo stride (featureOf t) (sideOf t) ss))
 
   pub deliveries : (ss : List (List ℕ)) → Delivers ss
   deliveries [] rs f = refl
   deliveries (s ∷ ss) rs f = go (checkSlice stride (featureOf t) (sideOf t) s) refl (deliveries ss)
     where
       go : (c : Checked) → checkSlice stride (featureOf t) (sideOf t) s ≡ c → Delivers ss
-          → deliveredTo (written t rs) (s ∷ ss) ≡ written t (delivered keyOf keyLess sameKey correctionNumber room rs (sentTo stride (featureOf t) (sideOf t) (s ∷ ss)))
+          → deliveredTo (written t rs) (s ∷ ss) ≡ written t
+          (delivered keyOf keyLess sameKey correctionOf lowerCorrection room rs (sentTo stride (featureOf t) (sideOf t) (s ∷ ss)))
       go (Refused x) d more = ap (λ (l : List ℕ). deliveredTo l ss) (left-by-slice (written t rs) s (sound rs f) x (checked rs f s ∙ d)) ∙ rw d (more rs f)
       go Sound d more = ap (λ (l : List ℕ). deliveredTo l ss) (taken rs f s d) ∙ rw d (more (us rs f s d) (fitting rs f s d))
 

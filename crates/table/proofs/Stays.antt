@@ -29,7 +29,6 @@ use Rattle.slice.proofs.Sound.{SoundRecord, sound-record, sound-slice}
 use Rattle.table.specs.Header.{sideOf, featureOf, strideOf, roomOf, recordsOf, written}
 use Rattle.table.specs.Rules.{takes, isRefused, fails, inOrder, checkTable}
 use Rattle.table.specs.Arriving.{recordOf, storedOf, filingOf, arrivalOf, changed, filed, arrivedAt}
-use Rattle.table.specs.Deliveries.{correctionNumber}
 use Rattle.table.specs.declared.check.Sides.{Sides}
 use Rattle.table.specs.declared.check.Sides.the-variants.{Both}
 use Rattle.table.proofs.Records.{room-fits, room-most, records-length}
@@ -110,7 +109,7 @@ module _ (stride : ℕ) (sides : Sides) (t : List ℕ) (h : SoundTable stride si
 -- ---- an arrival, as a change of the list of records
 module _ (room : ℕ) (r : List ℕ) (rs : List (List ℕ)) (t : List ℕ) where
   abbrev after-arrival : List (List ℕ)
-  after-arrival = arrived keyOf keyLess sameKey correctionNumber room r rs
+  after-arrival = arrived keyOf keyLess sameKey correctionOf lowerCorrection room r rs
 
   -- the table is left alone and so are the records, or the table is written with the records that the arrival makes
   abbrev pub Changes : Type 0
@@ -121,9 +120,10 @@ module _ (room : ℕ) (r : List ℕ) (rs : List (List ℕ)) (t : List ℕ) where
   answered a e = ap (λ (x : Arrival). changed x t (filed r rs)) e
 
   -- and what the stored record makes of the records
-  stored-makes : (o : Option (List ℕ)) → storedOf r rs ≡ o → after-arrival ≡ against keyOf keyLess sameKey correctionNumber room r rs o
+  stored-makes : (o : Option (List ℕ)) → storedOf r rs ≡ o
+      → after-arrival ≡ against keyOf keyLess sameKey correctionOf lowerCorrection room r rs o
   unfolding storedOf
-  stored-makes o e = ap (against keyOf keyLess sameKey correctionNumber room r rs) e
+  stored-makes o e = ap (against keyOf keyLess sameKey correctionOf lowerCorrection room r rs) e
 
   left-alone : (a : Arrival) → filingOf room r rs ≡ a → changed a t (filed r rs) ≡ t → after-arrival ≡ rs → Changes
   left-alone a e c k = inl (answered a e ∙ c, k)
@@ -132,7 +132,7 @@ module _ (room : ℕ) (r : List ℕ) (rs : List (List ℕ)) (t : List ℕ) where
   put-there a e c k = inr (answered a e ∙ c ∙ ap (written t) (sym k))
 
   pub filing-changes : Changes
-  unfolding filed lowerCorrection
+  unfolding filed
   filing-changes = go (storedOf r rs) refl
     where
       go : (o : Option (List ℕ)) → storedOf r rs ≡ o → Changes
@@ -173,14 +173,15 @@ module _ (t s : List ℕ) where
 
 -- what an arrival of a good record keeps of good records that rise and fit
 pub arrival-keeps : (stride side room : ℕ) (rs : List (List ℕ)) (r : List ℕ) → Up rs → length rs ≤ room → ((x : List ℕ) → In x rs → Good stride side x) → Good stride side r
-    → Kept keyOf keyLess sameKey (Good stride side) room rs (arrived keyOf keyLess sameKey correctionNumber room r rs)
-arrival-keeps stride side room rs r up h g d = arrived-kept keyOf keyLess sameKey key-order correctionNumber (Good stride side) room rs r up h g d
+    → Kept keyOf keyLess sameKey (Good stride side) room rs (arrived keyOf keyLess sameKey correctionOf lowerCorrection room r rs)
+arrival-keeps stride side room rs r up h g d =
+    arrived-kept keyOf keyLess sameKey key-order correctionOf lowerCorrection (Good stride side) room rs r up h g d
 
 -- ---- what an arrival does, whatever the table and the slice
 module _ (t s : List ℕ) where
   -- the records that it makes of the stored ones
   abbrev pub made : List (List ℕ)
-  made = arrived keyOf keyLess sameKey correctionNumber (room t s) (recordOf s) (stored-records t s)
+  made = arrived keyOf keyLess sameKey correctionOf lowerCorrection (room t s) (recordOf s) (stored-records t s)
 
   -- a sound table, written with them
   pub record Filed : Type 0 where

@@ -7,9 +7,9 @@ use mathlib.Core.Logic.{_↔_}
 use lib.ListN.{length, drop}
 use Rattle.laws.specs.Lists.{kept, joined}
 use Rattle.laws.specs.Keyed.{In, Consistent, Fresh, distinct, afresh}
+use Rattle.numbers.specs.Numbers.{lowerCorrection}
 use Rattle.slice.specs.Record.{correctionOf, keyOf, keyLess, sameKey}
 use Rattle.slice.specs.Check.{checkSlice}
-use Rattle.numbers.specs.Numbers.{lowerCorrection}
 use Rattle.table.specs.Header.{stride1, headerOf}
 use Rattle.table.specs.Rules.{isRefused}
 use Rattle.table.specs.Arriving.{refusedArrival, recordOf, arrivedAt}
@@ -23,8 +23,10 @@ pub record Decided (room : ℕ) (r : List ℕ) (rs : List (List ℕ)) (a : Arriv
   pub added : ((x : List ℕ) → In x rs → keyOf x ≡ keyOf r → ⊥) → (length rs ≡ room → ⊥) → a ≡ Added
   pub full : ((x : List ℕ) → In x rs → keyOf x ≡ keyOf r → ⊥) → length rs ≡ room → a ≡ refusedArrival 18
   -- x is the stored record of its kind and sequence: its correction is lower; it is higher; it is the same, with equal or other bytes
-  pub replaced : (x : List ℕ) → In x rs → keyOf x ≡ keyOf r → lowerCorrection (correctionOf x) (correctionOf r) ≡ true → a ≡ Replaced
-  pub superseded : (x : List ℕ) → In x rs → keyOf x ≡ keyOf r → lowerCorrection (correctionOf r) (correctionOf x) ≡ true → a ≡ Superseded
+  pub replaced : (x : List ℕ) → In x rs → keyOf x ≡ keyOf r → lowerCorrection (correctionOf x) (correctionOf r) ≡ true
+      → a ≡ Replaced
+  pub superseded : (x : List ℕ) → In x rs → keyOf x ≡ keyOf r → lowerCorrection (correctionOf r) (correctionOf x) ≡ true
+      → a ≡ Superseded
   pub repeated : (x : List ℕ) → In x rs → keyOf x ≡ keyOf r → correctionOf r ≡ correctionOf x → r ≡ x → a ≡ Repeat
   pub clash : (x : List ℕ) → In x rs → keyOf x ≡ keyOf r → correctionOf r ≡ correctionOf x → (r ≡ x → ⊥) → a ≡ refusedArrival 17
 
@@ -46,12 +48,9 @@ sentTo stride feature side ss = map recordOf (kept (passes stride feature side) 
 abbrev pub Delivers : List ℕ → ℕ → List (List ℕ) → List (List ℕ) → Type 0
 Delivers feature side set ss = (s : List ℕ) → In s set ↔ (In s ss × (passes stride1 feature side s ≡ true))
 
-abbrev pub correctionNumber : List ℕ → ℕ
-correctionNumber r = correctionOf r .0
-
 -- no two records of a set are alike in kind, sequence and correction but different in content
 abbrev pub Agree : List (List ℕ) → Type 0
-Agree set = Consistent keyOf keyLess sameKey correctionNumber (λ r. In r set)
+Agree set = Consistent keyOf keyLess sameKey correctionOf lowerCorrection (λ r. In r set)
 
 -- how many kinds and sequences a set has
 abbrev pub pairsIn : List (List ℕ) → ℕ
@@ -59,7 +58,7 @@ pairsIn set = distinct keyOf keyLess sameKey set
 
 -- for each kind and sequence of a set of records the one with the highest correction, in rising order
 unfoldable pub recordsAfresh : List (List ℕ) → List (List ℕ)
-recordsAfresh set = afresh keyOf keyLess sameKey correctionNumber set
+recordsAfresh set = afresh keyOf keyLess sameKey correctionOf lowerCorrection set
 
 -- a buffer that holds records as the table of a side and a feature: its header and count, the records, and every byte beyond
 -- them as it was
@@ -71,6 +70,6 @@ abbrev pub tableAfresh : List ℕ → ℕ → List ℕ → List (List ℕ) → L
 tableAfresh buffer side feature set = holding buffer side feature (recordsAfresh set)
 
 -- what it is to be the records of a set's table: they rise, they are in the set, and each record of the set is covered by one of its
--- kind and sequence with at least its correction
+-- kind and sequence whose correction is not lower
 abbrev pub TableOf : List (List ℕ) → List (List ℕ) → Type 0
-TableOf set rs = Fresh keyOf keyLess sameKey correctionNumber (λ r. In r set) rs
+TableOf set rs = Fresh keyOf keyLess sameKey correctionOf lowerCorrection (λ r. In r set) rs

@@ -1,13 +1,13 @@
--- The example of document 01, computed from bytes, and edges of the derivation: one table, one claim. Assumes nothing.
+-- The example of document 01, and the texts of a refusal and of an input that is too long, computed from bytes. Assumes nothing.
 use Prim.Native.Nat.{ℕ}
 use mathlib.Core.Path.{_≡_, refl}
-use mathlib.Core.List.{List, [], _∷_, _++_}
+use mathlib.Core.List.{List, [], _∷_, _++_, map}
 use lib.ListN.{length, replicate}
 use Rattle.laws.specs.Lists.{joined}
 use Rattle.octets.specs.Writing.{bytesOf}
 use Rattle.slice.specs.Record.{baseline, permdelta, permanent}
 use Rattle.table.specs.Header.{headerOf}
-use Rattle.text.specs.Listing.{listingOf, listings}
+use Rattle.text.specs.Listing.{listingOf, saidOf, listings}
 
 abbrev none : ℕ
 none = 4294967295
@@ -38,3 +38,19 @@ pub paper : listingOf (table (entry baseline 1 100 none 100 none nil nil ∷ ent
     ∷ 50 ∷ 32 ∷ 51 ∷ 48 ∷ 48 ∷ 32 ∷ 45 ∷ 32 ∷ 50 ∷ 49 ∷ 49 ∷ 49 ∷ 49 ∷ 49 ∷ 49 ∷ 49 ∷ 10 ∷ []
 unfolding listings
 paper = refl
+
+-- `refused N`, with one digit and with two: no bytes at all (1), zeros as long as a table may be (2), two BASELINEs at 200 (21)
+refusals : map saidOf
+    ([] ∷ replicate 57376 0
+    ∷ table (entry baseline 1 100 none 100 none nil nil ∷ entry baseline 2 200 none 100 none nil nil ∷ []) ∷ [])
+    ≡ (114 ∷ 101 ∷ 102 ∷ 117 ∷ 115 ∷ 101 ∷ 100 ∷ 32 ∷ 49 ∷ 10 ∷ [])
+    ∷ (114 ∷ 101 ∷ 102 ∷ 117 ∷ 115 ∷ 101 ∷ 100 ∷ 32 ∷ 50 ∷ 10 ∷ [])
+    ∷ (114 ∷ 101 ∷ 102 ∷ 117 ∷ 115 ∷ 101 ∷ 100 ∷ 32 ∷ 50 ∷ 49 ∷ 10 ∷ [])
+    ∷ []
+unfolding listings
+refusals = refl
+
+-- `too long`: one byte more than that
+long : saidOf (replicate 57377 0) ≡ 116 ∷ 111 ∷ 111 ∷ 32 ∷ 108 ∷ 111 ∷ 110 ∷ 103 ∷ 10 ∷ []
+unfolding listings
+long = refl

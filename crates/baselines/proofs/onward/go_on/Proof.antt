@@ -14,6 +14,7 @@ use Rattle.octets.specs.Bytes.{Bytes}
 use Rattle.numbers.specs.Numbers.{noInstant, isNone, sameInstant}
 use Rattle.numbers.specs.declared.Instant.{Instant}
 use Rattle.numbers.proofs.Facts.{none-false}
+use Rattle.numbers.proofs.Orders.{instant-of}
 use Rattle.slice.specs.Record.{recordSize, periodOf, viewOf}
 use Rattle.slice.specs.declared.check.Checked.the-variants.{Sound}
 use Rattle.slice.specs.declared.record.Period.{Period}
@@ -23,7 +24,6 @@ use Rattle.table.specs.declared.check.Sides.the-variants.{Permanent}
 use Rattle.table.proofs.Sound.{sound-table, sound-order}
 use Rattle.history.specs.Anchor.{based, anchor}
 use Rattle.history.specs.State.{started}
-use Rattle.history.proofs.Orders.{instant-of}
 use Rattle.history.proofs.Line.{known-apart}
 use Rattle.state.specs.Asking.{slicesOf, outcomeOf}
 use Rattle.state.proofs.Replies.{outcome-told}

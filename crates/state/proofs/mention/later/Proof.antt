@@ -5,6 +5,7 @@ use lib.Dec.{eqb}
 use borrow.Author.Tests.{not-true, not-false}
 use Rattle.laws.specs.Orders.{lexLess}
 use Rattle.numbers.specs.Numbers.{numbers}
+use Rattle.history.specs.Permanent.{turnLess}
 use Rattle.state.proofs.Marks.{behind, later-not, later-new, later-old}
 use borrow.Author.Needs.{needs}
 use Rattle.state.proofs.mention.later.Statement.{statement}
@@ -12,7 +13,7 @@ use Rattle.state.proofs.mention.later.Tie as tie
 
 -- whether the old mention is the earlier one
 told : (c : tie.After-precedes2) → (c .before .before .precedes .result || (c .before .is .result && c .precedes2 .result)) ≡ behind (c .before .before .before .before .before .before .before .before .args .old) (c .before .before .before .before .before .before .before .before .args .new)
-unfolding lexLess numbers
+unfolding turnLess lexLess numbers
 told c = rw (c .before .before .precedes .ensures, c .before .is .ensures, c .precedes2 .ensures)
 
 returns-2 : tie.Need-returns-2
