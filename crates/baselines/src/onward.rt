@@ -26,9 +26,9 @@ use numbers::Instant;
 use octets::byte;
 use octets::put;
 use octets::put32;
-use slice::Refusal;
 use slice::life_of;
 use slice::period_of;
+use slice::refusals;
 use state::Outcome;
 use state::state_at;
 use table::count_of;
@@ -94,7 +94,7 @@ fn left_at(record: &[u8], instant: Instant) -> Outcome
     let life = life_of(record);
     let end = life.end;
     if !end.is_none() & end.at_most(instant) {
-        return Outcome::Refused(Refusal { number: 22 });
+        return Outcome::Refused(refusals::WITHDRAWN);
     }
     Outcome::Written
 }
@@ -143,7 +143,7 @@ pub(crate) fn go_on(
             return left_at(current, instant);
         }
         if !past.had {
-            return Outcome::Refused(Refusal { number: 22 });
+            return Outcome::Refused(refusals::WITHDRAWN);
         }
     }
     apply_at(current, permanent, begins, front.end, instant);

@@ -17,6 +17,7 @@ use slice::Refusal;
 use slice::key_of;
 use slice::life_of;
 use slice::period_of;
+use slice::refusals;
 use table::record_at;
 use table::stride_of;
 
@@ -121,7 +122,7 @@ fn begun(
     let life = life_at(permanent, size, origin(anchor, stride, start, mark, 9));
     let end = life.end;
     if !end.is_none() & end.at_most(instant) {
-        return Standing::Refused(Refusal { number: 22 });
+        return Standing::Refused(refusals::WITHDRAWN);
     }
     Standing::From(start)
 }
@@ -137,11 +138,11 @@ pub(crate) fn settle(permanent: &[u8], instant: Instant, found: Survey) -> Stand
     let openings = found.openings;
     match bases {
         Few::Zero => match openings {
-            Few::Zero => Standing::Refused(Refusal { number: 20 }),
+            Few::Zero => Standing::Refused(refusals::NO_STATE),
             Few::One(place) => begun(permanent, instant, mentions, false, place),
-            Few::More => Standing::Refused(Refusal { number: 21 }),
+            Few::More => Standing::Refused(refusals::TWO_ANCHORS),
         },
         Few::One(place) => begun(permanent, instant, mentions, true, place),
-        Few::More => Standing::Refused(Refusal { number: 21 }),
+        Few::More => Standing::Refused(refusals::TWO_ANCHORS),
     }
 }

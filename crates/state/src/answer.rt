@@ -17,6 +17,7 @@ use numbers::Instant;
 use octets::same;
 use slice::Checked;
 use slice::Refusal;
+use slice::refusals;
 use table::Sides;
 use table::check_order;
 use table::check_table;
@@ -40,7 +41,7 @@ pub(crate) fn check_both(permanent: &[u8], temporary: &[u8]) -> Checked
         return Checked::Refused(refusal);
     }
     if !same(&permanent[8..24], &temporary[8..24]) {
-        return Checked::Refused(Refusal { number: 8 });
+        return Checked::Refused(refusals::DIFFERENT_FEATURES);
     }
     Checked::Sound
 }
@@ -52,10 +53,10 @@ fn write_state(permanent: &[u8], instant: Instant, record: &mut [u8]) -> Outcome
     ensures buffer { λ r. ⌜ now («record» .exit) ≡ afterState r (now (permanent .entry)) instant (now («record» .entry)) ⌝ }
 {
     if instant.is_none() {
-        return Outcome::Refused(Refusal { number: 19 });
+        return Outcome::Refused(refusals::INSTANT_OR_PROPERTY);
     }
     if record.len() != 32 + 8 * stride_of(permanent) {
-        return Outcome::Refused(Refusal { number: 23 });
+        return Outcome::Refused(refusals::BUFFER_SIZE);
     }
     let found = survey_permanent(permanent, instant, 0, 8);
     match settle(permanent, instant, found) {
@@ -113,10 +114,10 @@ pub fn snapshot(permanent: &[u8], temporary: &[u8], instant: Instant, record: &m
         return Outcome::Refused(refusal);
     }
     if instant.is_none() {
-        return Outcome::Refused(Refusal { number: 19 });
+        return Outcome::Refused(refusals::INSTANT_OR_PROPERTY);
     }
     if record.len() != 32 + 8 * stride_of(permanent) {
-        return Outcome::Refused(Refusal { number: 23 });
+        return Outcome::Refused(refusals::BUFFER_SIZE);
     }
     let found = survey_permanent(permanent, instant, 0, 8);
     match settle(permanent, instant, found) {

@@ -17,6 +17,7 @@ use crate::survey::survey_permanent;
 use numbers::Instant;
 use slice::Checked;
 use slice::Refusal;
+use slice::refusals;
 use table::record_at;
 use table::stride_of;
 
@@ -81,7 +82,7 @@ pub fn locate(permanent: &[u8], temporary: &[u8], instant: Instant, property: u8
         return Place::Refused(refusal);
     }
     if instant.is_none() | (7 < property) {
-        return Place::Refused(Refusal { number: 19 });
+        return Place::Refused(refusals::INSTANT_OR_PROPERTY);
     }
     let n = property as usize;
     let found = survey_permanent(permanent, instant, n, n + 1);

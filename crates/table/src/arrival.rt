@@ -27,6 +27,7 @@ use slice::Refusal;
 use slice::check_slice;
 use slice::correction_of;
 use slice::key_of;
+use slice::refusals;
 
 // What an arrival answers.
 pub enum Arrival {
@@ -100,7 +101,7 @@ fn correct(table: &mut [u8], size: usize, at: usize, record: &[u8]) -> Arrival
     if same(record, record_at(table, size, at)) {
         return Arrival::Repeat;
     }
-    Arrival::Refused(Refusal { number: 17 })
+    Arrival::Refused(refusals::OTHER_BYTES)
 }
 
 // Files a record that passed the slice check in a table that passed its own: 17, 18, or an accepted
@@ -117,7 +118,7 @@ fn file(table: &mut [u8], size: usize, record: &[u8]) -> Arrival
         return correct(table, size, at, record);
     }
     if count == room_of(table, size) {
-        return Arrival::Refused(Refusal { number: 18 });
+        return Arrival::Refused(refusals::TABLE_FULL);
     }
     insert(table, size, count, at, record);
     Arrival::Added

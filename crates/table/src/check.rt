@@ -13,9 +13,9 @@ use crate::header::stride_of;
 use octets::be16;
 use octets::blank8;
 use slice::Checked;
-use slice::Refusal;
 use slice::check_record;
 use slice::key_of;
+use slice::refusals;
 
 // The sides that a call takes.
 pub enum Sides {
@@ -82,29 +82,29 @@ pub fn check_table(table: &[u8], sides: Sides) -> Checked
     ensures { λ r. ⌜ r ≡ checkTable sides (now (table .entry)) ⌝ }
 {
     if table.len() < 32 {
-        return Checked::Refused(Refusal { number: 1 });
+        return Checked::Refused(refusals::TABLE_TOO_SHORT);
     }
     let side = side_of(table);
     if !(is_lettered(table) & takes_side(sides, side)) {
-        return Checked::Refused(Refusal { number: 2 });
+        return Checked::Refused(refusals::LETTERS_OR_SIDE);
     }
     if be16(table, 4) != 1 {
-        return Checked::Refused(Refusal { number: 3 });
+        return Checked::Refused(refusals::VERSION);
     }
     if !blank8(table, 24) {
-        return Checked::Refused(Refusal { number: 4 });
+        return Checked::Refused(refusals::HEADER_NOT_ZERO);
     }
     let stride = stride_of(table);
     let size = 32 + 8 * stride;
     let count = count_of(table) as usize;
     if room_of(table, size) < count {
-        return Checked::Refused(Refusal { number: 5 });
+        return Checked::Refused(refusals::COUNT_OVER_ROOM);
     }
     let Found::Nowhere = first_failing(table, stride, size, count, side) else {
-        return Checked::Refused(Refusal { number: 6 });
+        return Checked::Refused(refusals::RECORD_IN_TABLE);
     };
     if !is_in_order(table, size, count) {
-        return Checked::Refused(Refusal { number: 7 });
+        return Checked::Refused(refusals::RECORD_ORDER);
     }
     Checked::Sound
 }
@@ -117,10 +117,10 @@ pub fn check_order(table: &[u8]) -> Checked
     let size = 32 + 8 * stride_of(table);
     let counted = count_of(table) as usize;
     if room_of(table, size) < counted {
-        return Checked::Refused(Refusal { number: 5 });
+        return Checked::Refused(refusals::COUNT_OVER_ROOM);
     }
     if !is_in_order(table, size, counted) {
-        return Checked::Refused(Refusal { number: 7 });
+        return Checked::Refused(refusals::RECORD_ORDER);
     }
     Checked::Sound
 }
