@@ -19,7 +19,7 @@ use slice::Refusal;
 use slice::refusals;
 use table::Sides;
 use table::check_table;
-use table::stride_of;
+use table::record_size;
 
 // What a derivation answers: how many records it has written.
 pub enum Derivation {
@@ -44,7 +44,7 @@ fn hand_over(permanent: &[u8], drawn: &[u8], count: usize, output: &mut [u8]) ->
     ensures answer { λ r. ⌜ r ≡ handedOf (now (permanent .entry)) (now (output .entry)) ⌝ }
     ensures buffer { λ r. ⌜ now (output .exit) ≡ afterDeriving r (now (permanent .entry)) (now (output .entry)) ⌝ }
 {
-    let length = count * (32 + 8 * stride_of(permanent));
+    let length = count * record_size(permanent);
     if output.len() < 32 + length {
         return Derivation::Refused(refusals::BUFFER_SIZE);
     }

@@ -33,6 +33,7 @@ use state::Outcome;
 use state::state_at;
 use table::count_of;
 use table::record_at;
+use table::record_size;
 use table::stride_of;
 
 // Writes a life time where one is given.
@@ -81,7 +82,11 @@ fn apply_at(record: &mut [u8], permanent: &[u8], begins: &[u32], front: usize, i
     let mut i = front;
     while i < count {
         if begins[i] == instant.0 {
-            apply(record, record_at(permanent, 32 + 8 * stride, i), stride);
+            apply(
+                record,
+                record_at(permanent, record_size(permanent), i),
+                stride,
+            );
         }
         i += 1;
     }
@@ -135,7 +140,7 @@ pub(crate) fn go_on(
         if held.count != 1 {
             return state_at(permanent, instant, current);
         }
-        let base = record_at(permanent, 32 + 8 * stride_of(permanent), held.place);
+        let base = record_at(permanent, record_size(permanent), held.place);
         let period = period_of(base);
         let begin = period.begin;
         if begin.is(instant) {

@@ -19,6 +19,7 @@ use slice::life_of;
 use slice::period_of;
 use slice::refusals;
 use table::record_at;
+use table::record_size;
 use table::stride_of;
 
 // None, one by its place, or more.
@@ -106,7 +107,7 @@ fn begun(
     ensures { λ r. ⌜ r ≡ foundFrom instant (now (permanent .entry)) (getD (mentions .marks) 9 nothing) based place ⌝ }
 {
     let stride = stride_of(permanent);
-    let size = 32 + 8 * stride;
+    let size = record_size(permanent);
     let anchor = record_at(permanent, size, place);
     let period = period_of(anchor);
     let key = key_of(anchor);

@@ -21,7 +21,7 @@ use slice::refusals;
 use table::Sides;
 use table::check_order;
 use table::check_table;
-use table::stride_of;
+use table::record_size;
 
 // What a question answers that writes a record.
 pub enum Outcome {
@@ -55,7 +55,7 @@ fn write_state(permanent: &[u8], instant: Instant, record: &mut [u8]) -> Outcome
     if instant.is_none() {
         return Outcome::Refused(refusals::INSTANT_OR_PROPERTY);
     }
-    if record.len() != 32 + 8 * stride_of(permanent) {
+    if record.len() != record_size(permanent) {
         return Outcome::Refused(refusals::BUFFER_SIZE);
     }
     let found = survey_permanent(permanent, instant, 0, 8);
@@ -116,7 +116,7 @@ pub fn snapshot(permanent: &[u8], temporary: &[u8], instant: Instant, record: &m
     if instant.is_none() {
         return Outcome::Refused(refusals::INSTANT_OR_PROPERTY);
     }
-    if record.len() != 32 + 8 * stride_of(permanent) {
+    if record.len() != record_size(permanent) {
         return Outcome::Refused(refusals::BUFFER_SIZE);
     }
     let found = survey_permanent(permanent, instant, 0, 8);

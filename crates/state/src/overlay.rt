@@ -13,6 +13,7 @@ use numbers::Instant;
 use slice::TEMPDELTA;
 use table::count_of;
 use table::record_at;
+use table::record_size;
 use table::stride_of;
 
 // The one pass over a temporary table: of each property the last TEMPDELTA that is valid and mentions it, by
@@ -23,7 +24,7 @@ pub(crate) fn overlay(temporary: &[u8], instant: Instant) -> [usize; 8]
     ensures { λ r. ⌜ (length r ≡ 8) × ((q : ℕ) → q < 8 → getD r q 0 ≡ placeAndOne (latestValid q instant (slicesOf (now (temporary .entry))))) ⌝ }
 {
     let stride = stride_of(temporary);
-    let size = 32 + 8 * stride;
+    let size = record_size(temporary);
     let count = count_of(temporary) as usize;
     let mut places = [0usize; 8];
     let mut i = 0;

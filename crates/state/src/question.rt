@@ -19,6 +19,7 @@ use slice::Checked;
 use slice::Refusal;
 use slice::refusals;
 use table::record_at;
+use table::record_size;
 use table::stride_of;
 
 // Where the bytes of a property begin: at a place of the permanent or of the temporary table, or nowhere.
@@ -43,7 +44,7 @@ fn place_of(table: &[u8], from: usize, n: usize) -> usize
     ensures { λ r. ⌜ r ≡ placeFrom (now (table .entry)) from n ⌝ }
 {
     let stride = stride_of(table);
-    let size = 32 + 8 * stride;
+    let size = record_size(table);
     32 + (from - 1) * size + 32 + n * stride
 }
 
@@ -63,7 +64,7 @@ fn placed(
         return Place::Temporary(place_of(temporary, over, n));
     }
     let stride = stride_of(permanent);
-    let anchor = record_at(permanent, 32 + 8 * stride, start.place);
+    let anchor = record_at(permanent, record_size(permanent), start.place);
     let from = origin(anchor, stride, start, under, n);
     if from != 0 {
         return Place::Permanent(place_of(permanent, from, n));

@@ -29,6 +29,7 @@ use slice::key_of;
 use slice::period_of;
 use table::count_of;
 use table::record_at;
+use table::record_size;
 use table::stride_of;
 
 // What a pass over the permanent table finds: the BASELINEs that hold at an instant; of the PERMDELTAs that
@@ -102,7 +103,7 @@ fn front_of(permanent: &[u8], instant: Instant) -> Front
     ensures bases { λ r. ⌜ r .bases ≡ tallyFrom (stands (slicesOf (now (permanent .entry))) instant) 0 Zero (slicesOf (now (permanent .entry))) ⌝ }
     ensures end { λ r. ⌜ (r .end ≤ countOf (now (permanent .entry))) × ((j : ℕ) (d : Slice) → j < r .end → getD (slicesOf (now (permanent .entry))) j d .kind ≤ baseline) ⌝ }
 {
-    let size = 32 + 8 * stride_of(permanent);
+    let size = record_size(permanent);
     let count = count_of(permanent) as usize;
     let mut bases = Few::Zero;
     let mut i = 0;
@@ -126,8 +127,8 @@ fn since_of(permanent: &[u8], bases: Few) -> Instant
     match bases {
         Few::Zero => Instant(0),
         Few::One(place) => {
-            let stride = stride_of(permanent);
-            let period = period_of(record_at(permanent, 32 + 8 * stride, place));
+            let size = record_size(permanent);
+            let period = period_of(record_at(permanent, size, place));
             period.begin
         }
         Few::More => Instant(0),
@@ -143,7 +144,7 @@ pub(crate) fn survey_permanent(permanent: &[u8], instant: Instant, from: usize, 
     ensures marks { λ r. ⌜ (length (r .latest .marks) ≡ 10) × ((q : ℕ) → wanted from to q ≡ true → getD (r .latest .marks) q nothing ≡ markDue (latestDue q (sinceOf (now (permanent .entry)) (r .bases)) instant (slicesOf (now (permanent .entry))))) ⌝ }
 {
     let stride = stride_of(permanent);
-    let size = 32 + 8 * stride;
+    let size = record_size(permanent);
     let count = count_of(permanent) as usize;
     let front = front_of(permanent, instant);
     let bases = front.bases;

@@ -18,6 +18,7 @@ use octets::put;
 use octets::put32;
 use slice::Life;
 use table::record_at;
+use table::record_size;
 use table::stride_of;
 
 // The life times of a state: of the records that tell them last.
@@ -26,7 +27,7 @@ fn life_of_state(permanent: &[u8], start: Start, mentions: Latest) -> Life
     ensures { λ r. ⌜ r ≡ lifeFrom (now (permanent .entry)) start (mentions .marks) ⌝ }
 {
     let stride = stride_of(permanent);
-    let size = 32 + 8 * stride;
+    let size = record_size(permanent);
     let anchor = record_at(permanent, size, start.place);
     let eighth = mentions.marks[8];
     let ninth = mentions.marks[9];
@@ -83,7 +84,7 @@ fn put_property(record: &mut [u8], table: &[u8], n: usize, from: usize)
         put_unknown(record, at, stride);
         return;
     }
-    let source = record_at(table, 32 + 8 * stride, from - 1);
+    let source = record_at(table, record_size(table), from - 1);
     put(record, at, &source[at..at + stride]);
 }
 
@@ -105,7 +106,7 @@ fn put_latest(
         return;
     }
     let stride = stride_of(permanent);
-    let anchor = record_at(permanent, 32 + 8 * stride, start.place);
+    let anchor = record_at(permanent, record_size(permanent), start.place);
     let from = origin(anchor, stride, start, under, n);
     put_property(record, permanent, n, from);
 }

@@ -14,6 +14,7 @@ use crate::check::Sides;
 use crate::check::check_table;
 use crate::header::count_of;
 use crate::header::record_at;
+use crate::header::record_size;
 use crate::header::room_of;
 use crate::header::side_of;
 use crate::header::stride_of;
@@ -140,5 +141,6 @@ pub fn arrive(table: &mut [u8], slice: &[u8]) -> Arrival
     if let Checked::Refused(refusal) = check_slice(slice, stride, &table[8..24], side) {
         return Arrival::Refused(refusal);
     }
-    file(table, 32 + 8 * stride, &slice[16..])
+    let size = record_size(table);
+    file(table, size, &slice[16..])
 }

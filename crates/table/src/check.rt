@@ -7,6 +7,7 @@ ghost use Rattle.table.specs.Rules.{takes, failing, inOrder, checkTable,
 use crate::header::count_of;
 use crate::header::is_lettered;
 use crate::header::record_at;
+use crate::header::record_size;
 use crate::header::room_of;
 use crate::header::side_of;
 use crate::header::stride_of;
@@ -95,7 +96,7 @@ pub fn check_table(table: &[u8], sides: Sides) -> Checked
         return Checked::Refused(refusals::HEADER_NOT_ZERO);
     }
     let stride = stride_of(table);
-    let size = 32 + 8 * stride;
+    let size = record_size(table);
     let count = count_of(table) as usize;
     if room_of(table, size) < count {
         return Checked::Refused(refusals::COUNT_OVER_ROOM);
@@ -114,7 +115,7 @@ pub fn check_table(table: &[u8], sides: Sides) -> Checked
 pub fn check_order(table: &[u8]) -> Checked
     ensures { λ r. ⌜ r ≡ checkOrder (now (table .entry)) ⌝ }
 {
-    let size = 32 + 8 * stride_of(table);
+    let size = record_size(table);
     let counted = count_of(table) as usize;
     if room_of(table, size) < counted {
         return Checked::Refused(refusals::COUNT_OVER_ROOM);

@@ -4,7 +4,6 @@ ghost use Rattle.table.specs.Arriving.{creationOf, created};
 use crate::check::Sides;
 use crate::check::takes_side;
 use octets::put;
-use octets::put16;
 use slice::Refusal;
 use slice::refusals;
 

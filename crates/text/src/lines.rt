@@ -18,6 +18,7 @@ use slice::key_of;
 use slice::period_of;
 use table::count_of;
 use table::record_at;
+use table::record_size;
 use table::stride_of;
 
 // Writes some letters.
@@ -109,7 +110,7 @@ fn put_lines(s: &mut [u8], at: usize, table: &[u8]) -> usize
     ensures { λ r. ⌜ Wrote (42 * countOf (now (table .entry))) (now (s .entry)) at (joined (map (lineOf (strideOf (now (table .entry)))) (recordsOf (recordSize (strideOf (now (table .entry)))) (now (table .entry))))) (now (s .exit)) r ⌝ }
 {
     let stride = stride_of(table);
-    let size = 32 + 8 * stride;
+    let size = record_size(table);
     let count = count_of(table) as usize;
     let mut end = at;
     let mut i = 0;

@@ -64,7 +64,7 @@ module _ (c : tie.After-enum-told) where
 
 -- 19 and 23 are past
 fits : (c : tie.Else2) → let k = c .before .before .before .before in length (start k .args .«record» .now) ≡ recordSize (strideOf (table k))
-fits c = c .if2 .left ∙ ap recordSize (c .before .stride-of .ensures)
+fits c = c .if2 .left ∙ c .before .record-size .ensures
 
 asked : (c : tie.Else2) → let k = c .before .before .before .before in outcomeOf (standing k) ≡ snapshotOf (table k) (other k) (start k .args .instant) (start k .args .«record» .now)
 asked c =
@@ -97,7 +97,7 @@ returns-2 c =
 returns-3 : tie.Need-returns-3
 returns-3 c =
     let k = c .before .before .before .before in
-    (left-misfit _ _ _ (standing k) (sym (c .before .before .before .is-none .ensures) ∙ c .before .before .if1 .left) (λ e. c .if2 .taken (e ∙ sym (ap recordSize (c .before .stride-of .ensures)))) ∙ snapshot-left _ _ _ _ (checked k), refl)
+    (left-misfit _ _ _ (standing k) (sym (c .before .before .before .is-none .ensures) ∙ c .before .before .if1 .left) (λ e. c .if2 .taken (e ∙ sym (c .before .record-size .ensures))) ∙ snapshot-left _ _ _ _ (checked k), refl)
 
 put-state-requires : tie.Need-put-state-requires
 put-state-requires c κs =
@@ -153,8 +153,6 @@ snapshot-spec =
     (λ c κs. search needs)
     returns-2
     (λ c κs. search needs)
-    (λ c. search needs)
-    (λ c. search needs)
     returns-3
     (λ c κs. (roomy (c .before .before .before .before), (up (c .before .before .before .before), (omega arith, omega arith))))
     (λ c κs. settle-asks _ _ _ _ _ (surveyed c))

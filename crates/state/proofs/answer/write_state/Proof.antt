@@ -3,7 +3,7 @@ use Prim.Native.Nat.{ℕ}
 use mathlib.Core.Path.{_≡_, refl, sym, ap, subst, _∙_}
 use mathlib.Core.List.{List}
 use native.Mathlib.Omega.{arith}
-use lib.ListN.{length, getD, replicate, getD-replicate}
+use lib.ListN.{length, replicate, getD-replicate}
 use Rattle.slice.specs.Record.{recordSize}
 use Rattle.table.specs.Header.{strideOf}
 use Rattle.history.specs.Anchor.{stands}
@@ -31,7 +31,7 @@ standing s = permanentAt (s .args .instant) (slicesOf (table s))
 
 -- 19 and 23 are past
 fits : (c : tie.Else2) → length (start c .args .«record» .now) ≡ recordSize (strideOf (table (start c)))
-fits c = c .if2 .left ∙ ap recordSize (c .before .stride-of .ensures)
+fits c = c .if2 .left ∙ c .before .record-size .ensures
 
 asked : (c : tie.Else2) → let s = start c in outcomeOf (standing s) ≡ leftOf (table s) (s .args .instant) (s .args .«record» .now) (standing s)
 asked c = left-asked _ _ _ (standing (start c)) (sym (c .before .before .before .is-none .ensures) ∙ c .before .before .if1 .left) (fits c)
@@ -55,7 +55,7 @@ begun c = subst (Stood (c .before .before .before)) (c .start .given .1) (stood 
 returns-2 : tie.Need-returns-2
 returns-2 c =
     let s = c .before .before .before .before .before .before in
-    (left-misfit _ _ _ (standing s) (sym (c .before .before .before .is-none .ensures) ∙ c .before .before .if1 .left) (λ e. c .if2 .taken (e ∙ sym (ap recordSize (c .before .stride-of .ensures)))), refl)
+    (left-misfit _ _ _ (standing s) (sym (c .before .before .before .is-none .ensures) ∙ c .before .before .if1 .left) (λ e. c .if2 .taken (e ∙ sym (c .before .record-size .ensures))), refl)
 
 survey-permanent-requires : tie.Need-survey-permanent-requires
 survey-permanent-requires c κs = let s = start c in (s .pre .0, (s .pre .1, (omega arith, omega arith)))
@@ -109,8 +109,6 @@ write-state-spec =
     (λ c κs. search needs)
     (λ c. (left-none _ _ _ (standing (c .before .before .before .before)) (sym (c .before .is-none .ensures) ∙ c .if1 .taken), refl))
     (λ c κs. search needs)
-    (λ c. search needs)
-    (λ c. search needs)
     returns-2
     survey-permanent-requires
     (λ c κs. settle-asks _ _ _ _ _ (surveyed c))

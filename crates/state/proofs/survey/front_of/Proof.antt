@@ -53,7 +53,7 @@ module _ (k : tie.After-record-at Inv-loop μ-loop) where
   below = omega arith
 
   read : k .record-at .result .now ≡ recordAt (recordSize (strideOf table)) place table
-  read = read-by table place (k .before .before .before .before .stride-of .ensures) (k .record-at .ensures .0)
+  read = read-by table place (k .before .before .before .before .record-size .ensures) (k .record-at .ensures .0)
 
   next : drop place (slicesOf table) ≡ here ∷ drop (place + 1) (slicesOf table)
   next = slices-at table place below (start .pre .0)
@@ -120,8 +120,6 @@ front-of-spec =
     Inv-loop
     μ-loop
     (λ c κs. search needs)
-    (λ c. search needs)
-    (λ c. search needs)
     (λ c κs. search needs)
     (λ c. search needs)
     (λ c. (omega arith, ((Zero, refl, refl), λ j d h. absurd (omega arith))))

@@ -43,13 +43,13 @@ abbrev μ-loop : tie.MeasureT-loop
 -- the record that a turn looks at, and the slice that it says
 module _ (k : tie.After-record-at Inv-loop2 μ-loop2 Inv-loop μ-loop) where
   abbrev start : tie.Start Inv-loop2 μ-loop2 Inv-loop μ-loop
-  start = k .before .before .before .before .before .before .before .before .before
+  start = k .before .before .before .before .before .before .before .before .before .before
 
   abbrev table : List ℕ
   table = start .args .permanent .now
 
   abbrev stride : ℕ
-  stride = k .before .before .before .before .before .before .before .stride-of .result
+  stride = k .before .before .before .before .before .before .before .before .stride-of .result
 
   abbrev place : ℕ
   place = k .before .before .loop .i
@@ -78,7 +78,7 @@ module _ (k : tie.After-record-at Inv-loop2 μ-loop2 Inv-loop μ-loop) where
   below = omega arith
 
   read : Read table place stride (k .record-at .result .now)
-  read = read-here table place (k .before .before .before .before .before .before .before .stride-of .ensures) (k .record-at .ensures .0) (start .pre .0) below
+  read = read-here table place (k .before .before .before .before .before .before .before .record-size .ensures) (k .record-at .ensures .0) (k .before .before .before .before .before .before .before .before .stride-of .ensures) (start .pre .0) below
 
   next : drop place (slicesOf table) ≡ here ∷ drop (place + 1) (slicesOf table)
   next = slices-at table place below (start .pre .0)
@@ -99,7 +99,7 @@ told v = let k = v .before in v .is-due .ensures (strideOf (table k)) ∙ ap (λ
 loop-holds : tie.Need-loop-holds Inv-loop2 μ-loop2 Inv-loop μ-loop
 unfolding latestDue
 loop-holds c =
-    let a = c .before .before .before .before .before .before .args in
+    let a = c .before .before .before .before .before .before .before .args in
     let p = a .permanent .now in
     let s = c .before .since-of .result in
     let f = c .before .before .front-of in
@@ -186,7 +186,7 @@ loop-again c =
 returns : tie.Need-returns Inv-loop2 μ-loop2 Inv-loop μ-loop
 returns c =
     let l = c .before .loop in
-    let a = c .before .before .before .before .before .before .before .before .args in
+    let a = c .before .before .before .before .before .before .before .before .before .args in
     let p = a .permanent .now in
     let s = c .before .before .before .since-of .result in
     let b = c .before .before .before .before .front-of .result .bases in
@@ -212,11 +212,10 @@ survey-permanent-spec =
     Inv-loop
     μ-loop
     (λ c κs. search needs)
-    (λ c. search needs)
-    (λ c. search needs)
+    (λ c κs. search needs)
     (λ c κs. search needs)
     (λ c. search needs)
-    (λ c κs. let s = c .before .before .before in (s .pre .0, s .pre .1 .0))
+    (λ c κs. let s = c .before .before .before .before in (s .pre .0, s .pre .1 .0))
     (λ c κs. search needs)
     (λ c κs. search needs)
     loop-holds
