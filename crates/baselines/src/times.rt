@@ -3,9 +3,9 @@ ghost use mathlib.Core.Path.{_≡_};
 ghost use Prim.Native.Nat.{_+_, _≤_, min, max};
 ghost use Rattle.numbers.specs.Numbers.{noInstant};
 ghost use lib.ListN.{length};
-ghost use Rattle.slice.specs.Record.{recordSize};
 ghost use Rattle.slice.specs.declared.check.Checked.the-variants.{Sound};
-ghost use Rattle.table.specs.Header.{countOf, strideOf, roomOf};
+ghost use Rattle.table.specs.Header.{countOf};
+ghost use Rattle.table.specs.Steps.{Whole};
 ghost use Rattle.table.specs.Rules.{checkTable, checkOrder};
 ghost use Rattle.table.specs.declared.check.Sides.the-variants.{Permanent};
 ghost use Rattle.baselines.specs.Noted.{Noted, Fronted, LastOpening, Least, HeldBy, lies};
@@ -21,7 +21,7 @@ use table::record_size;
 
 // Notes the begin, the end and the life end of each record, as they stand.
 pub(crate) fn note(permanent: &[u8], begins: &mut [u32], ends: &mut [u32], gones: &mut [u32])
-    requires { ⌜ (countOf (now permanent) ≤ roomOf (recordSize (strideOf (now permanent))) (now permanent)) × ((length (now begins) ≡ 256) × ((length (now ends) ≡ 256) × (length (now gones) ≡ 256))) ⌝ }
+    requires { ⌜ Whole (now permanent) × ((length (now begins) ≡ 256) × ((length (now ends) ≡ 256) × (length (now gones) ≡ 256))) ⌝ }
     ensures { λ _. ⌜ Noted (now (permanent .entry)) (now (begins .exit)) (now (ends .exit)) (now (gones .exit)) ⌝ }
 {
     let size = record_size(permanent);

@@ -1,13 +1,8 @@
 // The permanent state and the snapshot, written as a record.
 ghost use mathlib.Core.Path.{_≡_};
-ghost use Prim.Native.Nat.{_≤_};
-ghost use Rattle.laws.specs.Keyed.{Rising};
-ghost use Rattle.slice.specs.Record.{recordSize, keyLess, sameKey};
-ghost use Rattle.table.specs.Header.{countOf, strideOf, roomOf};
-ghost use Rattle.history.specs.Counted.{sliceKey};
 ghost use Rattle.history.specs.Permanent.{permanentAt};
 ghost use Rattle.state.specs.Asking.{slicesOf, checkBoth, permanentStateOf, stateAtOf, snapshotOf, afterState, afterSnapshot};
-ghost use Rattle.state.specs.Steps.{leftOf};
+ghost use Rattle.state.specs.Steps.{Walkable, leftOf};
 use crate::anchor::Standing;
 use crate::anchor::settle;
 use crate::overlay::overlay;
@@ -48,8 +43,10 @@ pub(crate) fn check_both(permanent: &[u8], temporary: &[u8]) -> Checked
 
 // Behind the check of the table: 19, 23, and then the permanent state.
 fn write_state(permanent: &[u8], instant: Instant, record: &mut [u8]) -> Outcome
-    requires { ⌜ (countOf (now permanent) ≤ roomOf (recordSize (strideOf (now permanent))) (now permanent)) × Rising sliceKey keyLess sameKey (slicesOf (now permanent)) ⌝ }
-    ensures answer { λ r. ⌜ r ≡ leftOf (now (permanent .entry)) instant (now («record» .entry)) (permanentAt instant (slicesOf (now (permanent .entry)))) ⌝ }
+    requires { ⌜ Walkable (now permanent) ⌝ }
+    ensures answer { λ r. ⌜ r
+        ≡ leftOf (now (permanent .entry)) instant (now («record» .entry))
+        (permanentAt instant (slicesOf (now (permanent .entry)))) ⌝ }
     ensures buffer { λ r. ⌜ now («record» .exit) ≡ afterState r (now (permanent .entry)) instant (now («record» .entry)) ⌝ }
 {
     if instant.is_none() {

@@ -2,10 +2,9 @@
 ghost use mathlib.Core.Path.{_≡_};
 ghost use Prim.Native.Nat.{_≤_, _<_};
 ghost use Rattle.laws.specs.OneAnswer.{shown};
-ghost use Rattle.slice.specs.Record.{recordSize};
-ghost use Rattle.table.specs.Header.{countOf, strideOf, roomOf};
+ghost use Rattle.table.specs.Header.{countOf};
 ghost use Rattle.state.specs.Asking.{placeOf, sourceOf, handed};
-ghost use Rattle.state.specs.Steps.{placeFrom, placedBy};
+ghost use Rattle.state.specs.Steps.{Stored, placeFrom, placedBy};
 use crate::anchor::Standing;
 use crate::anchor::Start;
 use crate::anchor::origin;
@@ -57,7 +56,10 @@ fn placed(
     over: usize,
     n: usize,
 ) -> Place
-    requires { ⌜ (n < 8) × ((countOf (now permanent) ≤ roomOf (recordSize (strideOf (now permanent))) (now permanent)) × ((start .place < countOf (now permanent)) × ((under .from ≤ countOf (now permanent)) × (over ≤ 256)))) ⌝ }
+    requires property { ⌜ n < 8 ⌝ }
+    requires anchor { ⌜ Stored (now permanent) (start .place) ⌝ }
+    requires below { ⌜ under .from ≤ countOf (now permanent) ⌝ }
+    requires above { ⌜ over ≤ 256 ⌝ }
     ensures { λ r. ⌜ r ≡ placedBy (now (permanent .entry)) (now (temporary .entry)) start under over n ⌝ }
 {
     if over != 0 {

@@ -1,9 +1,9 @@
 // The check of a table: rules 1 to 7, in their order.
 ghost use mathlib.Core.Path.{_≡_};
-ghost use Prim.Native.Nat.{_≤_};
 ghost use Rattle.slice.specs.Record.{recordSize};
-ghost use Rattle.table.specs.Header.{countOf, roomOf, recordsOf};
+ghost use Rattle.table.specs.Header.{countOf, recordsOf};
 ghost use Rattle.table.specs.Rules.{takes, failing, inOrder, checkTable, checkOrder};
+ghost use Rattle.table.specs.Steps.{Roomy};
 use crate::header::count_of;
 use crate::header::is_lettered;
 use crate::header::record_at;
@@ -44,7 +44,7 @@ pub fn takes_side(sides: Sides, side: u8) -> bool
 
 // The first record of a table that fails 11 to 16.
 fn first_failing(table: &[u8], stride: usize, size: usize, count: usize, side: u8) -> Found
-    requires { ⌜ (size ≡ recordSize stride) × (count ≡ countOf (now table)) × (count ≤ roomOf size (now table)) ⌝ }
+    requires { ⌜ (size ≡ recordSize stride) × (count ≡ countOf (now table)) × Roomy size (now table) ⌝ }
     ensures { λ r. ⌜ r ≡ failing stride side (recordsOf size (now (table .entry))) ⌝ }
 {
     let mut i = 0;
@@ -59,7 +59,7 @@ fn first_failing(table: &[u8], stride: usize, size: usize, count: usize, side: u
 
 // Whether the records of a table stand in strictly rising order.
 fn is_in_order(table: &[u8], size: usize, count: usize) -> bool
-    requires { ⌜ (count ≡ countOf (now table)) × (count ≤ roomOf size (now table)) ⌝ }
+    requires { ⌜ (count ≡ countOf (now table)) × Roomy size (now table) ⌝ }
     ensures { λ r. ⌜ r ≡ inOrder (recordsOf size (now (table .entry))) ⌝ }
 {
     if count == 0 {

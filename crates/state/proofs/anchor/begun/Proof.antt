@@ -29,7 +29,7 @@ anchor c = let a = asked c .args in recordAt (recordSize (strideOf (a .permanent
 read : (c : tie.After-key-of) → Read (asked c .args .permanent .now) (asked c .args .place) (c .before .before .before .before .stride-of .result) (c .before .before .record-at .result .now)
 read c =
     let s = asked c in
-    read-here (s .args .permanent .now) (s .args .place) (c .before .before .before .record-size .ensures) (c .before .before .record-at .ensures .0) (c .before .before .before .before .stride-of .ensures) (s .pre .1 .0) (s .pre .1 .1)
+    read-here (s .args .permanent .now) (s .args .place) (c .before .before .before .record-size .ensures) (c .before .before .record-at .ensures .0) (c .before .before .before .before .stride-of .ensures) (s .pre .1 .whole) (s .pre .1 .below)
 
 abbrev made : tie.After-key-of → Start
 made c = record { based = asked c .args .based; place = asked c .args .place; begin = c .before .period-of .result .begin; sequence = c .key-of .result .sequence }

@@ -3,8 +3,7 @@ use mathlib.Core.Path.{_≡_, refl, sym, _∙_}
 use Rattle.slice.specs.declared.check.Checked.the-variants.{Sound}
 use Rattle.table.specs.Rules.{checkTable}
 use Rattle.table.specs.declared.check.Sides.the-variants as sides
-use Rattle.table.proofs.Sound.{sound-table}
-use Rattle.state.proofs.Slices.{sound-rising}
+use Rattle.state.proofs.Slices.{sound-walkable}
 use Rattle.state.proofs.Stages.{state-refused, state-left}
 use borrow.Author.Needs.{needs}
 use Rattle.state.proofs.answer.permanent_state.Statement.{statement}
@@ -21,4 +20,4 @@ returns-2 c =
 pub permanent-state-spec : {M : Type 1} → statement M
 permanent-state-spec =
     tie.close
-    (tie.spec (λ c κs. search needs) (λ c. search needs) (λ c. (state-refused _ _ _ _ (sym (c .before .before .before .check-table .ensures) ∙ c .before .refusal .given .1), refl)) (λ c. search needs) (λ c κs. (sound-table sides.Permanent _ (sound (c .before)) .roomy, sound-rising _ sides.Permanent (sound (c .before)))) (λ c. search needs) returns-2)
+    (tie.spec (λ c κs. search needs) (λ c. search needs) (λ c. (state-refused _ _ _ _ (sym (c .before .before .before .check-table .ensures) ∙ c .before .refusal .given .1), refl)) (λ c. search needs) (λ c κs. sound-walkable _ sides.Permanent (sound (c .before))) (λ c. search needs) returns-2)

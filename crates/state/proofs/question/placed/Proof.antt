@@ -22,14 +22,14 @@ table k = k .before .before .before .before .before .before .args .permanent .no
 read : (k : tie.After-record-at) → Read (table k) (k .before .before .before .before .before .before .args .start .place) (k .before .before .stride-of .result) (k .record-at .result .now)
 read k =
     let s = k .before .before .before .before .before .before in
-    read-here (table k) (s .args .start .place) (k .before .record-size .ensures) (k .record-at .ensures .0) (k .before .before .stride-of .ensures) (s .pre .1 .0) (s .pre .1 .1 .0)
+    read-here (table k) (s .args .start .place) (k .before .record-size .ensures) (k .record-at .ensures .0) (k .before .before .stride-of .ensures) (s .pre .1 .0 .whole) (s .pre .1 .0 .below)
 
 told : (c : tie.After-origin) → let a = c .before .before .before .before .before .before .before .args in
     c .origin .result ≡ originOf (a .start) (tells (a .n) (viewOf (strideOf (table (c .before))) (recordAt (recordSize (strideOf (table (c .before)))) (a .start .place) (table (c .before))))) (a .under)
 told c = let a = c .before .before .before .before .before .before .before .args in c .origin .ensures ∙ ap (λ (v : Slice). originOf (a .start) (tells (a .n) v) (a .under)) (read (c .before) .seen)
 
 most : (c : tie.After-origin) → c .origin .result ≤ countOf (table (c .before))
-most c = let s = c .before .before .before .before .before .before .before in rw (told c) (origin-known _ _ _ _ (s .pre .1 .1 .0) (s .pre .1 .1 .1 .0))
+most c = let s = c .before .before .before .before .before .before .before in rw (told c) (origin-known _ _ _ _ (s .pre .1 .0 .below) (s .pre .1 .1 .0))
 
 returns : tie.Need-returns
 unfolding placedBy
@@ -40,7 +40,7 @@ returns c =
 place-of-requires-2 : tie.Need-place-of-requires-2
 place-of-requires-2 c κs =
     let s = c .before .before .before .before .before .before .before .before in
-    (omega arith, (omega (arith, most (c .before), s .pre .1 .0, room-most (recordSize (strideOf (s .args .permanent .now))) (s .args .permanent .now)), s .pre .0))
+    (omega arith, (omega (arith, most (c .before), s .pre .1 .0 .whole, room-most (recordSize (strideOf (s .args .permanent .now))) (s .args .permanent .now)), s .pre .0))
 
 returns-2 : tie.Need-returns-2
 unfolding placedBy

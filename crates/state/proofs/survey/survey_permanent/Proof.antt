@@ -72,16 +72,16 @@ module _ (k : tie.After-record-at Inv-loop2 μ-loop2 Inv-loop μ-loop) where
   all = tallyFrom isOpening 0 Zero (slicesOf table)
 
   few : start .args .to ≤ 8
-  few = start .pre .1 .1 .1
+  few = start .pre .1 .1
 
   below : place < countOf table
   below = omega arith
 
   read : Read table place stride (k .record-at .result .now)
-  read = read-here table place (k .before .before .before .before .before .before .before .record-size .ensures) (k .record-at .ensures .0) (k .before .before .before .before .before .before .before .before .stride-of .ensures) (start .pre .0) below
+  read = read-here table place (k .before .before .before .before .before .before .before .record-size .ensures) (k .record-at .ensures .0) (k .before .before .before .before .before .before .before .before .stride-of .ensures) (start .pre .0 .whole) below
 
   next : drop place (slicesOf table) ≡ here ∷ drop (place + 1) (slicesOf table)
-  next = slices-at table place below (start .pre .0)
+  next = slices-at table place below (start .pre .0 .whole)
 
   -- past the inner loop the properties are noted, and then the life times
   all-noted : (new b e : Mark) (ms₀ ms₁ : List Mark) (part : ℕ) → part ≤ start .args .to → start .args .to ≤ part → length ms₁ ≡ 10
@@ -119,7 +119,7 @@ loop2-holds : tie.Need-loop2-holds Inv-loop2 μ-loop2 Inv-loop μ-loop
 loop2-holds c =
     let k = c .before .before .before .before .before in
     let l = k .before .before .loop in
-    (omega arith, (start k .pre .1 .1 .0, (l .inv .1 .1 .0, noted-start nothing (start k .args .from) (step k (c .mark-of .result)) (l .latest .marks))))
+    (omega arith, (start k .pre .1 .0, (l .inv .1 .1 .0, noted-start nothing (start k .args .from) (step k (c .mark-of .result)) (l .latest .marks))))
 
 loop2-again : tie.Need-loop2-again Inv-loop2 μ-loop2 Inv-loop μ-loop
 loop2-again c =
@@ -215,7 +215,7 @@ survey-permanent-spec =
     (λ c κs. search needs)
     (λ c κs. search needs)
     (λ c. search needs)
-    (λ c κs. let s = c .before .before .before .before in (s .pre .0, s .pre .1 .0))
+    (λ c κs. c .before .before .before .before .pre .0)
     (λ c κs. search needs)
     (λ c κs. search needs)
     loop-holds

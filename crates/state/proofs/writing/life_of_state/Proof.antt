@@ -23,7 +23,7 @@ anchor k = recordAt (recordSize (strideOf (table k))) (k .before .before .before
 read : (k : tie.After-record-at) → Read (table k) (k .before .before .before .before .args .start .place) (k .before .before .stride-of .result) (k .record-at .result .now)
 read k =
     let s = k .before .before .before .before in
-    read-here (table k) (s .args .start .place) (k .before .record-size .ensures) (k .record-at .ensures .0) (k .before .before .stride-of .ensures) (s .pre .1 .0) (s .pre .1 .1)
+    read-here (table k) (s .args .start .place) (k .before .record-size .ensures) (k .record-at .ensures .0) (k .before .before .stride-of .ensures) (s .pre .1 .whole) (s .pre .1 .below)
 
 -- a life time as it was found, part by part
 told : (k : tie.After-record-at) (q : ℕ) (l : Life) (o : ℕ) → l ≡ lifeAt (k .before .record-size .result) (table k) o

@@ -21,7 +21,7 @@ table k = k .before .before .before .before .before .before .before .args .perma
 read : (k : tie.After-record-at) → Read (table k) (k .before .before .before .before .before .before .before .args .start .place) (k .before .before .stride-of .result) (k .record-at .result .now)
 read k =
     let s = k .before .before .before .before .before .before .before in
-    read-here (table k) (s .args .start .place) (k .before .record-size .ensures) (k .record-at .ensures .0) (k .before .before .stride-of .ensures) (s .pre .1 .0) (s .pre .1 .1 .1 .0)
+    read-here (table k) (s .args .start .place) (k .before .record-size .ensures) (k .record-at .ensures .0) (k .before .before .stride-of .ensures) (s .pre .1 .anchor .whole) (s .pre .1 .anchor .below)
 
 told : (c : tie.After-origin) → let a = c .before .before .before .before .before .before .before .before .args in
     c .origin .result ≡ originOf (a .start) (tells (a .n) (viewOf (strideOf (table (c .before))) (recordAt (recordSize (strideOf (table (c .before)))) (a .start .place) (table (c .before))))) (a .under)
@@ -36,7 +36,7 @@ returns c =
 put-property-requires-2 : tie.Need-put-property-requires-2
 put-property-requires-2 c κs =
     let s = c .before .before .before .before .before .before .before .before .before in
-    (s .pre .0, (s .pre .1 .0, rw (told (c .before)) (origin-known _ _ _ _ (s .pre .1 .1 .1 .0) (s .pre .1 .1 .1 .1 .0))))
+    (s .pre .0, (s .pre .1 .anchor .whole, rw (told (c .before)) (origin-known _ _ _ _ (s .pre .1 .anchor .below) (s .pre .1 .below))))
 
 returns-2 : tie.Need-returns-2
 unfolding propertyBy

@@ -71,7 +71,7 @@ file-requires c κs =
     let e = z .before .before in
     let f = facts (told (e .before .before)) in
     let size = z .record-size .ensures in
-    (rw size (f .roomy), rw size (f .rising), rw size (record-size e))
+    (record { roomy = rw size (f .roomy); rising = rw size (f .rising) }, rw size (record-size e))
 
 returns-3 : tie.Need-returns-3
 returns-3 c =
