@@ -56,13 +56,13 @@ module _ (p : List ℕ) (order : checkOrder p ≡ Sound) where
   front-is n most front next = record {
     most = most;
     front = front;
-    behind = λ j h k. let (roomy, rises) = order-sound p order in
+    behind = λ j h k. let ordered = order-sound p order in
         let slice : ℕ → Slice = λ i. viewOf (strideOf p) (recordAt (recordSize (strideOf p)) i p) in
         let l : n < countOf p = omega tests in
-        let here = slices-at p n l roomy in
-        let up = rising-drop sliceKey keyLess sameKey key-order n (slicesOf p) (slices-rising p rises) in
+        let here = slices-at p n l (ordered .roomy) in
+        let up = rising-drop sliceKey keyLess sameKey key-order n (slicesOf p) (slices-rising p (ordered .rising)) in
         let there : n + (j - n) ≡ j = omega tests in
-        let is : getD (drop n (slicesOf p)) (j - n) (slice j) ≡ slice j = getD-drop n (slicesOf p) (j - n) (slice j) ∙ ap (λ (i : ℕ). getD (slicesOf p) i (slice j)) there ∙ slice-at p j (slice j) k roomy in
+        let is : getD (drop n (slicesOf p)) (j - n) (slice j) ≡ slice j = getD-drop n (slicesOf p) (j - n) (slice j) ∙ ap (λ (i : ℕ). getD (slicesOf p) i (slice j)) there ∙ slice-at p j (slice j) k (ordered .roomy) in
         let m = getD-in (drop n (slicesOf p)) (j - n) (slice j) (omega (tests, length-drop n (slicesOf p), slices-length p)) in
         kinds-rise (slice n) (drop (n + 1) (slicesOf p)) (subst (Rising sliceKey keyLess sameKey) here up) (next l) (slice j) (subst (In (slice j)) here (subst (λ s. In s (drop n (slicesOf p))) is m));
   }

@@ -16,9 +16,10 @@ use octets::put16;
 use slice::Checked;
 use slice::PERMANENT;
 use slice::Refusal;
+use slice::refusals;
 use table::Sides;
 use table::check_table;
-use table::stride_of;
+use table::record_size;
 
 // What a derivation answers: how many records it has written.
 pub enum Derivation {
@@ -43,9 +44,9 @@ fn hand_over(permanent: &[u8], drawn: &[u8], count: usize, output: &mut [u8]) ->
     ensures answer { λ r. ⌜ r ≡ handedOf (now (permanent .entry)) (now (output .entry)) ⌝ }
     ensures buffer { λ r. ⌜ now (output .exit) ≡ afterDeriving r (now (permanent .entry)) (now (output .entry)) ⌝ }
 {
-    let length = count * (32 + 8 * stride_of(permanent));
+    let length = count * record_size(permanent);
     if output.len() < 32 + length {
-        return Derivation::Refused(Refusal { number: 23 });
+        return Derivation::Refused(refusals::BUFFER_SIZE);
     }
     put_header(output, &permanent[8..24], count as u16);
     put(output, 32, &drawn[0..length]);
@@ -66,10 +67,10 @@ pub fn derive(permanent: &[u8], output: &mut [u8]) -> Derivation
     }
     let mut drawn = [0u8; 57568];
     match draw_all(permanent, &mut drawn) {
-        Drawn::Two => Derivation::Refused(Refusal { number: 21 }),
+        Drawn::Two => Derivation::Refused(refusals::TWO_ANCHORS),
         Drawn::Records(count) => {
             if 256 < count {
-                return Derivation::Refused(Refusal { number: 23 });
+                return Derivation::Refused(refusals::BUFFER_SIZE);
             }
             hand_over(permanent, &drawn, count, output)
         }

@@ -26,13 +26,14 @@ use numbers::Instant;
 use octets::byte;
 use octets::put;
 use octets::put32;
-use slice::Refusal;
 use slice::life_of;
 use slice::period_of;
+use slice::refusals;
 use state::Outcome;
 use state::state_at;
 use table::count_of;
 use table::record_at;
+use table::record_size;
 use table::stride_of;
 
 // Writes a life time where one is given.
@@ -81,7 +82,11 @@ fn apply_at(record: &mut [u8], permanent: &[u8], begins: &[u32], front: usize, i
     let mut i = front;
     while i < count {
         if begins[i] == instant.0 {
-            apply(record, record_at(permanent, 32 + 8 * stride, i), stride);
+            apply(
+                record,
+                record_at(permanent, record_size(permanent), i),
+                stride,
+            );
         }
         i += 1;
     }
@@ -94,7 +99,7 @@ fn left_at(record: &[u8], instant: Instant) -> Outcome
     let life = life_of(record);
     let end = life.end;
     if !end.is_none() & end.at_most(instant) {
-        return Outcome::Refused(Refusal { number: 22 });
+        return Outcome::Refused(refusals::WITHDRAWN);
     }
     Outcome::Written
 }
@@ -135,7 +140,7 @@ pub(crate) fn go_on(
         if held.count != 1 {
             return state_at(permanent, instant, current);
         }
-        let base = record_at(permanent, 32 + 8 * stride_of(permanent), held.place);
+        let base = record_at(permanent, record_size(permanent), held.place);
         let period = period_of(base);
         let begin = period.begin;
         if begin.is(instant) {
@@ -143,7 +148,7 @@ pub(crate) fn go_on(
             return left_at(current, instant);
         }
         if !past.had {
-            return Outcome::Refused(Refusal { number: 22 });
+            return Outcome::Refused(refusals::WITHDRAWN);
         }
     }
     apply_at(current, permanent, begins, front.end, instant);

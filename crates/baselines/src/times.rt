@@ -3,9 +3,9 @@ ghost use mathlib.Core.Path.{_≡_};
 ghost use Prim.Native.Nat.{_+_, _≤_, min, max};
 ghost use Rattle.numbers.specs.Numbers.{noInstant};
 ghost use lib.ListN.{length};
-ghost use Rattle.slice.specs.Record.{recordSize};
 ghost use Rattle.slice.specs.declared.check.Checked.the-variants.{Sound};
-ghost use Rattle.table.specs.Header.{countOf, strideOf, roomOf};
+ghost use Rattle.table.specs.Header.{countOf};
+ghost use Rattle.table.specs.Steps.{Whole};
 ghost use Rattle.table.specs.Rules.{checkTable, checkOrder};
 ghost use Rattle.table.specs.declared.check.Sides.the-variants.{Permanent};
 ghost use Rattle.baselines.specs.Noted.{Noted, Fronted, LastOpening, Least, HeldBy, lies};
@@ -17,14 +17,14 @@ use slice::life_of;
 use slice::period_of;
 use table::count_of;
 use table::record_at;
-use table::stride_of;
+use table::record_size;
 
 // Notes the begin, the end and the life end of each record, as they stand.
 pub(crate) fn note(permanent: &[u8], begins: &mut [u32], ends: &mut [u32], gones: &mut [u32])
-    requires { ⌜ (countOf (now permanent) ≤ roomOf (recordSize (strideOf (now permanent))) (now permanent)) × ((length (now begins) ≡ 256) × ((length (now ends) ≡ 256) × (length (now gones) ≡ 256))) ⌝ }
+    requires { ⌜ Whole (now permanent) × ((length (now begins) ≡ 256) × ((length (now ends) ≡ 256) × (length (now gones) ≡ 256))) ⌝ }
     ensures { λ _. ⌜ Noted (now (permanent .entry)) (now (begins .exit)) (now (ends .exit)) (now (gones .exit)) ⌝ }
 {
-    let size = 32 + 8 * stride_of(permanent);
+    let size = record_size(permanent);
     let count = count_of(permanent) as usize;
     let mut i = 0;
     while i < count {
@@ -46,7 +46,7 @@ fn front_end(permanent: &[u8]) -> usize
     requires { ⌜ checkOrder (now permanent) ≡ Sound ⌝ }
     ensures { λ r. ⌜ Fronted (now (permanent .entry)) r ⌝ }
 {
-    let size = 32 + 8 * stride_of(permanent);
+    let size = record_size(permanent);
     let count = count_of(permanent) as usize;
     let mut i = 0;
     while i < count {
@@ -70,7 +70,7 @@ fn last_opening(permanent: &[u8], front: usize) -> u32
     requires { ⌜ front ≤ countOf (now permanent) ⌝ }
     ensures { λ r. ⌜ LastOpening (now (permanent .entry)) front (countOf (now (permanent .entry))) r ⌝ }
 {
-    let size = 32 + 8 * stride_of(permanent);
+    let size = record_size(permanent);
     let count = count_of(permanent) as usize;
     let mut last = 0;
     let mut i = front;

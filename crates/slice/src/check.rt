@@ -10,6 +10,7 @@ use crate::record::is_cancelled;
 use crate::record::life_of;
 use crate::record::period_of;
 use crate::record::side_takes;
+use crate::refusals;
 use crate::rules::content_right;
 use crate::rules::times_right;
 use octets::blank;
@@ -39,13 +40,6 @@ pub fn number_of(c: Checked) -> u8
         Checked::Sound => 0,
         Checked::Refused(refusal) => refusal.number,
     }
-}
-
-// The refusal with a number.
-fn refuse_with(number: u8) -> Checked
-    ensures { λ r. ⌜ r ≡ refused number ⌝ }
-{
-    Checked::Refused(Refusal { number })
 }
 
 // Whether s is `head` bytes and then eight properties of `stride` bytes each, and no more.
@@ -85,15 +79,15 @@ fn check_counted(record: &[u8], stride: usize) -> Checked
     ensures { λ r. ⌜ r ≡ refuse refused (countedTests stride (now («record» .entry))) Checked.Sound ⌝ }
 {
     let Survey::Mentions(mentions) = check_eight(&record[32..], stride) else {
-        return refuse_with(14);
+        return Checked::Refused(refusals::PROPERTY_LAYOUT);
     };
     let kind = byte(record, 0);
     let life = life_of(record);
     if !times_right(kind, period_of(record), life) {
-        return refuse_with(15);
+        return Checked::Refused(refusals::TIMES);
     }
     if !content_right(kind, life, mentions == 8, 0 < mentions) {
-        return refuse_with(16);
+        return Checked::Refused(refusals::CONTENT);
     }
     Checked::Sound
 }
@@ -104,19 +98,19 @@ pub fn check_record(record: &[u8], stride: usize, side: u8) -> Checked
     ensures { λ r. ⌜ checkedReply r ≡ checkedReply (checkRecord stride side (now («record» .entry))) ⌝ }
 {
     if !is_sized(record, 32, stride) {
-        return refuse_with(9);
+        return Checked::Refused(refusals::SLICE_LENGTH);
     }
     if !side_takes(side, byte(record, 0)) {
-        return refuse_with(11);
+        return Checked::Refused(refusals::KIND);
     }
     if !reserved_clear(record) {
-        return refuse_with(12);
+        return Checked::Refused(refusals::RECORD_NOT_ZERO);
     }
     if !is_cancelled(record) {
         return check_counted(record, stride);
     }
     if !is_emptied(record, stride) {
-        return refuse_with(13);
+        return Checked::Refused(refusals::CANCELLED_NOT_BLANK);
     }
     Checked::Sound
 }
@@ -127,10 +121,10 @@ pub fn check_slice(slice: &[u8], stride: usize, feature: &[u8], side: u8) -> Che
     ensures { λ r. ⌜ checkedReply r ≡ checkedReply (checkSlice stride (now (feature .entry)) side (now (slice .entry))) ⌝ }
 {
     if !is_sized(slice, 48, stride) {
-        return refuse_with(9);
+        return Checked::Refused(refusals::SLICE_LENGTH);
     }
     if !same(&slice[0..16], feature) {
-        return refuse_with(10);
+        return Checked::Refused(refusals::OTHER_FEATURE);
     }
     check_record(&slice[16..], stride, side)
 }

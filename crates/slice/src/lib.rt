@@ -2,6 +2,7 @@
 // answers for every slice of bytes, and none asks anything of its caller.
 mod check;
 mod record;
+pub mod refusals;
 mod rules;
 
 pub use check::Checked;

@@ -4,15 +4,13 @@ use mathlib.Core.Path.{_≡_, sym, subst}
 use mathlib.Core.Bool.{true}
 use mathlib.Core.List.{List}
 use lib.ListN.{length, getD}
-use Rattle.laws.specs.Keyed.{Rising}
 use Rattle.numbers.specs.declared.Instant.{Instant}
-use Rattle.slice.specs.Record.{recordSize, keyLess, sameKey}
-use Rattle.table.specs.Header.{countOf, strideOf, roomOf}
-use Rattle.history.specs.Counted.{sliceKey}
+use Rattle.table.specs.Header.{countOf}
+use Rattle.table.specs.Steps.{Whole}
 use Rattle.history.specs.Anchor.{stands}
 use Rattle.history.specs.Parts.{opensDue, latestDue}
 use Rattle.state.specs.Asking.{slicesOf}
-use Rattle.state.specs.Steps.{nothing, wanted, markDue, tallyFrom, sinceOf, Below, standingOf}
+use Rattle.state.specs.Steps.{Walkable, nothing, wanted, markDue, tallyFrom, sinceOf, Below, standingOf}
 use Rattle.state.specs.declared.anchor.Few.the-variants.{Zero}
 use Rattle.state.specs.declared.anchor.Standing.{Standing}
 use Rattle.state.specs.declared.survey.Survey.{Survey}
@@ -20,8 +18,7 @@ use Rattle.state.proofs.Settled.{few-below, wanted-in, wanted-end, know
 
 -- it was made at an instant, for the properties from one up to another
 pub record Surveyed (t : Instant) (p : List ℕ) (from to : ℕ) (found : Survey) : Type 0 where
-  pub roomy : countOf p ≤ roomOf (recordSize (strideOf p)) p
-  pub rising : Rising sliceKey keyLess sameKey (slicesOf p)
+  pub walkable : Walkable p
   pub bases : found .bases ≡ tallyFrom (stands (slicesOf p) t) 0 Zero (slicesOf p)
   pub openings : found .openings ≡ tallyFrom (opensDue (sinceOf p (found .bases)) t) 0 Zero (slicesOf p)
   pub long : length (found .latest .marks) ≡ 10
@@ -31,16 +28,16 @@ module _ (t : Instant) (p : List ℕ) (from to : ℕ) (found : Survey) (s : Surv
   abbrev since : Instant
   since = sinceOf p (found .bases)
 
-  pub settle-asks : (length (found .latest .marks) ≡ 10) × ((countOf p ≤ roomOf (recordSize (strideOf p)) p) × (Below (countOf p) (found .bases) × Below (countOf p) (found .openings)))
-  settle-asks = (s .long, (s .roomy, (rw (s .bases) (few-below (stands (slicesOf p) t) p), rw (s .openings) (few-below (opensDue since t) p))))
+  pub settle-asks : (length (found .latest .marks) ≡ 10) × (Whole p × (Below (countOf p) (found .bases) × Below (countOf p) (found .openings)))
+  settle-asks = (s .long, (s .walkable .whole, (rw (s .bases) (few-below (stands (slicesOf p) t) p), rw (s .openings) (few-below (opensDue since t) p))))
 
   pub settles : (r : Standing) → r ≡ standingOf t p (found .bases) (found .openings) (found .latest .marks) → Settled since t p r
   settles r e =
-      subst (Settled since t p) (sym e) (settled t p (s .roomy) (s .rising) (found .bases) (found .openings) (found .latest .marks) (s .bases) (s .openings) (s .marks 9 (wanted-end from to)))
+      subst (Settled since t p) (sym e) (settled t p (s .walkable .whole) (s .walkable .rising) (found .bases) (found .openings) (found .latest .marks) (s .bases) (s .openings) (s .marks 9 (wanted-end from to)))
 
   -- a property that it was made for
   pub mark-due : (q : ℕ) → from ≤ q → q < to → getD (found .latest .marks) q nothing ≡ markDue (latestDue q since t (slicesOf p))
   mark-due q h k = s .marks q (wanted-in from to q h k)
 
   pub mark-known : (q : ℕ) → from ≤ q → q < to → getD (found .latest .marks) q nothing .from ≤ countOf p
-  mark-known q h k = known-due since t p (s .roomy) q _ (mark-due q h k)
+  mark-known q h k = known-due since t p (s .walkable .whole) q _ (mark-due q h k)

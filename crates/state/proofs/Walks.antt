@@ -1,5 +1,5 @@
 -- One turn of a walk over a table's records: the record that stands there has its size, its place is small, and what is read by the
--- stride that the table told is that record. Assumes nothing.
+-- size that the table told is that record. Assumes nothing.
 use Prim.Native.Nat.{ℕ, _+_, _*_, _≤_, _<_}
 use mathlib.Core.Path.{_≡_, sym, ap, _∙_}
 use mathlib.Core.List.{List}
@@ -32,15 +32,15 @@ pub record Read (t : List ℕ) (i n : ℕ) (r : List ℕ) : Type 0 where
   pub sized : length r ≡ recordSize n
   pub small : i < 256
 
--- it was read by a stride, which is the table's
-module _ (t : List ℕ) (i : ℕ) {n : ℕ} {r : List ℕ} (e : n ≡ strideOf t) (f : r ≡ recordAt (32 + 8 * n) i t) where
+-- it was read by a size, which is that of the table's records; and is looked at by a stride, which is the table's
+module _ (t : List ℕ) (i : ℕ) {k : ℕ} {r : List ℕ} (e : k ≡ recordSize (strideOf t)) (f : r ≡ recordAt k i t) where
   pub read-by : r ≡ recordAt (recordSize (strideOf t)) i t
-  read-by = f ∙ ap (λ (n : ℕ). recordAt (32 + 8 * n) i t) e
+  read-by = f ∙ ap (λ (k : ℕ). recordAt k i t) e
 
-  pub read-here : countOf t ≤ roomOf (recordSize (strideOf t)) t → i < countOf t → Read t i n r
-  read-here roomy h = record {
+  pub read-here : {n : ℕ} → n ≡ strideOf t → countOf t ≤ roomOf (recordSize (strideOf t)) t → i < countOf t → Read t i n r
+  read-here s roomy h = record {
     is = read-by;
-    seen = ap (λ (n : ℕ). viewOf n r) e ∙ ap (viewOf (strideOf t)) read-by;
-    sized = ap length read-by ∙ (size-at t roomy i h ∙ sym (ap recordSize e));
+    seen = ap (λ (n : ℕ). viewOf n r) s ∙ ap (viewOf (strideOf t)) read-by;
+    sized = ap length read-by ∙ (size-at t roomy i h ∙ sym (ap recordSize s));
     small = place-most t roomy i h;
   }

@@ -1,23 +1,26 @@
--- What the steps of a question answer. No public promise cites this file. Assumes nothing.
+-- What the steps of a question ask and answer. No public promise cites this file. Assumes nothing.
 use Prim.Native.Nat.{ℕ, zero, suc, _+_, _-_, _*_, _≤_, _<_}
+use mathlib.Core.Path.{_≡_}
 use mathlib.Core.Bool.{Bool, true, false, cond, not, _&&_, _||_}
 use mathlib.Core.List.{List, [], _++_}
 use mathlib.Core.Option.{Option, none, some}
-use lib.ListN.{getD, take, drop}
+use lib.ListN.{length, getD, take, drop}
 use lib.Dec.{ltb, leb, eqb}
+use Rattle.laws.specs.Keyed.{Rising}
 use Rattle.laws.specs.Refusals.{refuse}
 use Rattle.numbers.specs.Numbers as numbers
 use Rattle.numbers.specs.Numbers.{given, before, atMost}
 use Rattle.numbers.specs.declared.Instant.{Instant}
 use Rattle.slice.specs.declared.record.Life.{Life}
-use Rattle.slice.specs.Record.{recordSize, periodOf, lifeOf, sequenceOf, Slice, viewOf}
-use Rattle.table.specs.Header.{strideOf, recordAt}
-use Rattle.history.specs.Counted.{counts, holds}
+use Rattle.slice.specs.Record.{recordSize, periodOf, lifeOf, sequenceOf, keyLess, sameKey, Slice, viewOf}
+use Rattle.table.specs.Header.{countOf, strideOf, recordAt}
+use Rattle.table.specs.Steps.{Whole}
+use Rattle.history.specs.Counted.{counts, holds, sliceKey}
 use Rattle.history.specs.Parts.{tells, Placed, passFrom}
 use Rattle.history.specs.Permanent as State
 use Rattle.history.specs.Permanent.{Turn, turnLess}
 use Rattle.state.specs.Written.{nilUnknown}
-use Rattle.state.specs.Asking.{writingTests, refusedOutcome, outcomeOf}
+use Rattle.state.specs.Asking.{slicesOf, writingTests, refusedOutcome, outcomeOf}
 use Rattle.state.specs.declared.answer.Outcome.{Outcome}
 use Rattle.state.specs.declared.mention.Mark.{Mark}
 use Rattle.state.specs.declared.question.Place.{Place}
@@ -27,6 +30,17 @@ use Rattle.state.specs.declared.anchor.Few.the-variants.{Zero, One, More
 use Rattle.state.specs.declared.anchor.Start.{Start}
 use Rattle.state.specs.declared.anchor.Standing.{Standing}
 use Rattle.state.specs.declared.anchor.Standing.the-variants.{From, Refused}
+
+-- ---- a table that is walked
+-- its count is within its room, and its slices rise
+pub record Walkable (t : List ℕ) : Type 0 where
+  pub whole : Whole t
+  pub rising : Rising sliceKey keyLess sameKey (slicesOf t)
+
+-- it has a record at a place
+pub record Stored (t : List ℕ) (i : ℕ) : Type 0 where
+  pub whole : Whole t
+  pub below : i < countOf t
 
 -- ---- a question that writes a record
 -- behind the check of its tables: 19, 23, and then the standing
@@ -169,6 +183,24 @@ runOf f (suc n) = runOf f n ++ f n
 -- the places of the properties, and one, are those of records that are there
 abbrev pub Known : ℕ → (ℕ → ℕ) → Type 0
 Known count from = (q : ℕ) → q < 8 → from q ≤ count
+
+-- what property n is written from: the anchor, and in each table the record that mentions it last, are there
+pub record Told (p t : List ℕ) (s : Start) (under : Mark) (over : ℕ) : Type 0 where
+  pub anchor : Stored p (s .place)
+  pub whole : Whole t
+  pub below : under .from ≤ countOf p
+  pub above : over ≤ countOf t
+
+-- what a state is written from: a buffer of the record's size, the anchor, the marks of the ten parts, and the places of the eight
+-- properties in the temporary table
+pub record Ready (buffer p t : List ℕ) (s : Start) (ms : List Mark) (os : List ℕ) : Type 0 where
+  pub sized : length buffer ≡ recordSize (strideOf p)
+  pub anchor : Stored p (s .place)
+  pub whole : Whole t
+  pub ten : length ms ≡ 10
+  pub eight : length os ≡ 8
+  pub below : Known (countOf p) (λ q. getD ms q nothing .from)
+  pub above : Known (countOf t) (λ q. getD os q 0)
 
 -- ---- where a property begins
 -- property n of a record, by the record's place and one

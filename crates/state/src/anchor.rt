@@ -1,11 +1,12 @@
 // Where the state at an instant starts: its anchor, and whether the feature is withdrawn.
 ghost use mathlib.Core.Path.{_≡_};
-ghost use Prim.Native.Nat.{_≤_, _<_};
+ghost use Prim.Native.Nat.{_<_};
 ghost use lib.ListN.{length, getD};
 ghost use Rattle.slice.specs.Record.{recordSize, viewOf};
-ghost use Rattle.table.specs.Header.{countOf, strideOf, roomOf};
+ghost use Rattle.table.specs.Header.{countOf};
+ghost use Rattle.table.specs.Steps.{Whole};
 ghost use Rattle.history.specs.Parts.{tells};
-ghost use Rattle.state.specs.Steps.{nothing, oneMore, Below, afterStart, originOf, lifeAt, foundFrom, standingOf};
+ghost use Rattle.state.specs.Steps.{Stored, nothing, oneMore, Below, afterStart, originOf, lifeAt, foundFrom, standingOf};
 use crate::mention::Latest;
 use crate::mention::Mark;
 use crate::mention::gives;
@@ -17,7 +18,9 @@ use slice::Refusal;
 use slice::key_of;
 use slice::life_of;
 use slice::period_of;
+use slice::refusals;
 use table::record_at;
+use table::record_size;
 use table::stride_of;
 
 // None, one by its place, or more.
@@ -101,11 +104,11 @@ fn begun(
     based: bool,
     place: usize,
 ) -> Standing
-    requires { ⌜ (length (mentions .marks) ≡ 10) × ((countOf (now permanent) ≤ roomOf (recordSize (strideOf (now permanent))) (now permanent)) × (place < countOf (now permanent))) ⌝ }
+    requires { ⌜ (length (mentions .marks) ≡ 10) × Stored (now permanent) place ⌝ }
     ensures { λ r. ⌜ r ≡ foundFrom instant (now (permanent .entry)) (getD (mentions .marks) 9 nothing) based place ⌝ }
 {
     let stride = stride_of(permanent);
-    let size = 32 + 8 * stride;
+    let size = record_size(permanent);
     let anchor = record_at(permanent, size, place);
     let period = period_of(anchor);
     let key = key_of(anchor);
@@ -121,7 +124,7 @@ fn begun(
     let life = life_at(permanent, size, origin(anchor, stride, start, mark, 9));
     let end = life.end;
     if !end.is_none() & end.at_most(instant) {
-        return Standing::Refused(Refusal { number: 22 });
+        return Standing::Refused(refusals::WITHDRAWN);
     }
     Standing::From(start)
 }
@@ -129,7 +132,10 @@ fn begun(
 // The anchor of the state at an instant, from what a survey found: 21 for two, 20 for none, 22 for one
 // whose feature is withdrawn.
 pub(crate) fn settle(permanent: &[u8], instant: Instant, found: Survey) -> Standing
-    requires { ⌜ (length (found .latest .marks) ≡ 10) × ((countOf (now permanent) ≤ roomOf (recordSize (strideOf (now permanent))) (now permanent)) × (Below (countOf (now permanent)) (found .bases) × Below (countOf (now permanent)) (found .openings))) ⌝ }
+    requires marks { ⌜ length (found .latest .marks) ≡ 10 ⌝ }
+    requires whole { ⌜ Whole (now permanent) ⌝ }
+    requires bases { ⌜ Below (countOf (now permanent)) (found .bases) ⌝ }
+    requires openings { ⌜ Below (countOf (now permanent)) (found .openings) ⌝ }
     ensures { λ r. ⌜ r ≡ standingOf instant (now (permanent .entry)) (found .bases) (found .openings) (found .latest .marks) ⌝ }
 {
     let mentions = found.latest;
@@ -137,11 +143,11 @@ pub(crate) fn settle(permanent: &[u8], instant: Instant, found: Survey) -> Stand
     let openings = found.openings;
     match bases {
         Few::Zero => match openings {
-            Few::Zero => Standing::Refused(Refusal { number: 20 }),
+            Few::Zero => Standing::Refused(refusals::NO_STATE),
             Few::One(place) => begun(permanent, instant, mentions, false, place),
-            Few::More => Standing::Refused(Refusal { number: 21 }),
+            Few::More => Standing::Refused(refusals::TWO_ANCHORS),
         },
         Few::One(place) => begun(permanent, instant, mentions, true, place),
-        Few::More => Standing::Refused(Refusal { number: 21 }),
+        Few::More => Standing::Refused(refusals::TWO_ANCHORS),
     }
 }

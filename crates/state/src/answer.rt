@@ -1,13 +1,9 @@
 // The permanent state and the snapshot, written as a record.
 ghost use mathlib.Core.Path.{_≡_};
-ghost use Prim.Native.Nat.{_≤_};
-ghost use Rattle.laws.specs.Keyed.{Rising};
-ghost use Rattle.slice.specs.Record.{recordSize, keyLess, sameKey};
-ghost use Rattle.table.specs.Header.{countOf, strideOf, roomOf};
-ghost use Rattle.history.specs.Counted.{sliceKey};
 ghost use Rattle.history.specs.Permanent.{permanentAt};
-ghost use Rattle.state.specs.Asking.{slicesOf, checkBoth, permanentStateOf, stateAtOf, snapshotOf, outcomeReply, afterState, afterSnapshot};
-ghost use Rattle.state.specs.Steps.{leftOf};
+ghost use Rattle.state.specs.Asking.{slicesOf, checkBoth, permanentStateOf, stateAtOf, snapshotOf};
+ghost use Rattle.state.specs.Asking.{outcomeReply, afterState, afterSnapshot};
+ghost use Rattle.state.specs.Steps.{Walkable, leftOf};
 use crate::anchor::Standing;
 use crate::anchor::settle;
 use crate::overlay::overlay;
@@ -17,10 +13,11 @@ use numbers::Instant;
 use octets::same;
 use slice::Checked;
 use slice::Refusal;
+use slice::refusals;
 use table::Sides;
 use table::check_order;
 use table::check_table;
-use table::stride_of;
+use table::record_size;
 
 // What a question answers that writes a record.
 pub enum Outcome {
@@ -40,22 +37,24 @@ pub(crate) fn check_both(permanent: &[u8], temporary: &[u8]) -> Checked
         return Checked::Refused(refusal);
     }
     if !same(&permanent[8..24], &temporary[8..24]) {
-        return Checked::Refused(Refusal { number: 8 });
+        return Checked::Refused(refusals::DIFFERENT_FEATURES);
     }
     Checked::Sound
 }
 
 // Behind the check of the table: 19, 23, and then the permanent state.
 fn write_state(permanent: &[u8], instant: Instant, record: &mut [u8]) -> Outcome
-    requires { ⌜ (countOf (now permanent) ≤ roomOf (recordSize (strideOf (now permanent))) (now permanent)) × Rising sliceKey keyLess sameKey (slicesOf (now permanent)) ⌝ }
-    ensures answer { λ r. ⌜ r ≡ leftOf (now (permanent .entry)) instant (now («record» .entry)) (permanentAt instant (slicesOf (now (permanent .entry)))) ⌝ }
+    requires { ⌜ Walkable (now permanent) ⌝ }
+    ensures answer { λ r. ⌜ r
+        ≡ leftOf (now (permanent .entry)) instant (now («record» .entry))
+        (permanentAt instant (slicesOf (now (permanent .entry)))) ⌝ }
     ensures buffer { λ r. ⌜ now («record» .exit) ≡ afterState r (now (permanent .entry)) instant (now («record» .entry)) ⌝ }
 {
     if instant.is_none() {
-        return Outcome::Refused(Refusal { number: 19 });
+        return Outcome::Refused(refusals::INSTANT_OR_PROPERTY);
     }
-    if record.len() != 32 + 8 * stride_of(permanent) {
-        return Outcome::Refused(Refusal { number: 23 });
+    if record.len() != record_size(permanent) {
+        return Outcome::Refused(refusals::BUFFER_SIZE);
     }
     let found = survey_permanent(permanent, instant, 0, 8);
     match settle(permanent, instant, found) {
@@ -113,10 +112,10 @@ pub fn snapshot(permanent: &[u8], temporary: &[u8], instant: Instant, record: &m
         return Outcome::Refused(refusal);
     }
     if instant.is_none() {
-        return Outcome::Refused(Refusal { number: 19 });
+        return Outcome::Refused(refusals::INSTANT_OR_PROPERTY);
     }
-    if record.len() != 32 + 8 * stride_of(permanent) {
-        return Outcome::Refused(Refusal { number: 23 });
+    if record.len() != record_size(permanent) {
+        return Outcome::Refused(refusals::BUFFER_SIZE);
     }
     let found = survey_permanent(permanent, instant, 0, 8);
     match settle(permanent, instant, found) {

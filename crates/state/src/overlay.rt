@@ -1,9 +1,8 @@
 // One pass over the temporary table: the last mention of each property.
 ghost use mathlib.Core.Path.{_≡_};
-ghost use Prim.Native.Nat.{ℕ, _≤_, _<_};
+ghost use Prim.Native.Nat.{ℕ, _<_};
 ghost use lib.ListN.{length, getD};
-ghost use Rattle.slice.specs.Record.{recordSize};
-ghost use Rattle.table.specs.Header.{countOf, strideOf, roomOf};
+ghost use Rattle.table.specs.Steps.{Whole};
 ghost use Rattle.history.specs.Parts.{latestValid};
 ghost use Rattle.state.specs.Asking.{slicesOf};
 ghost use Rattle.state.specs.Steps.{placeAndOne};
@@ -13,17 +12,19 @@ use numbers::Instant;
 use slice::TEMPDELTA;
 use table::count_of;
 use table::record_at;
+use table::record_size;
 use table::stride_of;
 
 // The one pass over a temporary table: of each property the last TEMPDELTA that is valid and mentions it, by
 // its place and one; 0 where there is none. They stand in rising order of sequence number, so that none is
 // compared with another.
 pub(crate) fn overlay(temporary: &[u8], instant: Instant) -> [usize; 8]
-    requires { ⌜ countOf (now temporary) ≤ roomOf (recordSize (strideOf (now temporary))) (now temporary) ⌝ }
-    ensures { λ r. ⌜ (length r ≡ 8) × ((q : ℕ) → q < 8 → getD r q 0 ≡ placeAndOne (latestValid q instant (slicesOf (now (temporary .entry))))) ⌝ }
+    requires { ⌜ Whole (now temporary) ⌝ }
+    ensures { λ r. ⌜ (length r ≡ 8)
+        × ((q : ℕ) → q < 8 → getD r q 0 ≡ placeAndOne (latestValid q instant (slicesOf (now (temporary .entry))))) ⌝ }
 {
     let stride = stride_of(temporary);
-    let size = 32 + 8 * stride;
+    let size = record_size(temporary);
     let count = count_of(temporary) as usize;
     let mut places = [0usize; 8];
     let mut i = 0;

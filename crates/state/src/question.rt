@@ -2,10 +2,9 @@
 ghost use mathlib.Core.Path.{_≡_};
 ghost use Prim.Native.Nat.{_≤_, _<_};
 ghost use Rattle.laws.specs.OneAnswer.{shown};
-ghost use Rattle.slice.specs.Record.{recordSize};
-ghost use Rattle.table.specs.Header.{countOf, strideOf, roomOf};
+ghost use Rattle.table.specs.Header.{countOf};
 ghost use Rattle.state.specs.Asking.{placeOf, placeReply, sourceOf, sourceReply, handed};
-ghost use Rattle.state.specs.Steps.{placeFrom, placedBy};
+ghost use Rattle.state.specs.Steps.{Stored, placeFrom, placedBy};
 use crate::anchor::Standing;
 use crate::anchor::Start;
 use crate::anchor::origin;
@@ -17,7 +16,9 @@ use crate::survey::survey_permanent;
 use numbers::Instant;
 use slice::Checked;
 use slice::Refusal;
+use slice::refusals;
 use table::record_at;
+use table::record_size;
 use table::stride_of;
 
 // Where the bytes of a property begin: at a place of the permanent or of the temporary table, or nowhere.
@@ -42,7 +43,7 @@ fn place_of(table: &[u8], from: usize, n: usize) -> usize
     ensures { λ r. ⌜ r ≡ placeFrom (now (table .entry)) from n ⌝ }
 {
     let stride = stride_of(table);
-    let size = 32 + 8 * stride;
+    let size = record_size(table);
     32 + (from - 1) * size + 32 + n * stride
 }
 
@@ -55,14 +56,17 @@ fn placed(
     over: usize,
     n: usize,
 ) -> Place
-    requires { ⌜ (n < 8) × ((countOf (now permanent) ≤ roomOf (recordSize (strideOf (now permanent))) (now permanent)) × ((start .place < countOf (now permanent)) × ((under .from ≤ countOf (now permanent)) × (over ≤ 256)))) ⌝ }
+    requires property { ⌜ n < 8 ⌝ }
+    requires anchor { ⌜ Stored (now permanent) (start .place) ⌝ }
+    requires below { ⌜ under .from ≤ countOf (now permanent) ⌝ }
+    requires above { ⌜ over ≤ 256 ⌝ }
     ensures { λ r. ⌜ r ≡ placedBy (now (permanent .entry)) (now (temporary .entry)) start under over n ⌝ }
 {
     if over != 0 {
         return Place::Temporary(place_of(temporary, over, n));
     }
     let stride = stride_of(permanent);
-    let anchor = record_at(permanent, 32 + 8 * stride, start.place);
+    let anchor = record_at(permanent, record_size(permanent), start.place);
     let from = origin(anchor, stride, start, under, n);
     if from != 0 {
         return Place::Permanent(place_of(permanent, from, n));
@@ -81,7 +85,7 @@ pub fn locate(permanent: &[u8], temporary: &[u8], instant: Instant, property: u8
         return Place::Refused(refusal);
     }
     if instant.is_none() | (7 < property) {
-        return Place::Refused(Refusal { number: 19 });
+        return Place::Refused(refusals::INSTANT_OR_PROPERTY);
     }
     let n = property as usize;
     let found = survey_permanent(permanent, instant, n, n + 1);

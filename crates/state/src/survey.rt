@@ -3,15 +3,14 @@ ghost use mathlib.Core.Path.{_≡_};
 ghost use mathlib.Core.Bool.{true};
 ghost use Prim.Native.Nat.{ℕ, _+_, _≤_, _<_};
 ghost use lib.ListN.{length, getD};
-ghost use Rattle.laws.specs.Keyed.{Rising};
-ghost use Rattle.slice.specs.Record.{baseline, recordSize, keyLess, sameKey, Slice, viewOf};
-ghost use Rattle.table.specs.Header.{countOf, strideOf, roomOf};
-ghost use Rattle.history.specs.Counted.{counts, sliceKey};
+ghost use Rattle.slice.specs.Record.{baseline, Slice, viewOf};
+ghost use Rattle.table.specs.Header.{countOf};
+ghost use Rattle.history.specs.Counted.{counts};
 ghost use Rattle.history.specs.Anchor.{stands};
 ghost use Rattle.history.specs.Parts.{due, opensDue, latestDue};
 ghost use Rattle.state.specs.Asking.{slicesOf};
 ghost use Rattle.state.specs.declared.anchor.Few.the-variants.{Zero};
-ghost use Rattle.state.specs.Steps.{nothing, wanted, markOf, markDue, tallyFrom, holding, sinceOf};
+ghost use Rattle.state.specs.Steps.{Walkable, nothing, wanted, markOf, markDue, tallyFrom, holding, sinceOf};
 use crate::anchor::Few;
 use crate::anchor::tallied;
 use crate::mention::Latest;
@@ -29,6 +28,7 @@ use slice::key_of;
 use slice::period_of;
 use table::count_of;
 use table::record_at;
+use table::record_size;
 use table::stride_of;
 
 // What a pass over the permanent table finds: the BASELINEs that hold at an instant; of the PERMDELTAs that
@@ -98,11 +98,13 @@ fn mark_of(record: &[u8], place: usize) -> Mark
 
 // The front of a permanent table, its BASELINEs: those that hold at an instant, and where it ends.
 fn front_of(permanent: &[u8], instant: Instant) -> Front
-    requires { ⌜ (countOf (now permanent) ≤ roomOf (recordSize (strideOf (now permanent))) (now permanent)) × Rising sliceKey keyLess sameKey (slicesOf (now permanent)) ⌝ }
-    ensures bases { λ r. ⌜ r .bases ≡ tallyFrom (stands (slicesOf (now (permanent .entry))) instant) 0 Zero (slicesOf (now (permanent .entry))) ⌝ }
-    ensures end { λ r. ⌜ (r .end ≤ countOf (now (permanent .entry))) × ((j : ℕ) (d : Slice) → j < r .end → getD (slicesOf (now (permanent .entry))) j d .kind ≤ baseline) ⌝ }
+    requires { ⌜ Walkable (now permanent) ⌝ }
+    ensures bases { λ r. ⌜ r .bases
+        ≡ tallyFrom (stands (slicesOf (now (permanent .entry))) instant) 0 Zero (slicesOf (now (permanent .entry))) ⌝ }
+    ensures end { λ r. ⌜ (r .end ≤ countOf (now (permanent .entry)))
+        × ((j : ℕ) (d : Slice) → j < r .end → getD (slicesOf (now (permanent .entry))) j d .kind ≤ baseline) ⌝ }
 {
-    let size = 32 + 8 * stride_of(permanent);
+    let size = record_size(permanent);
     let count = count_of(permanent) as usize;
     let mut bases = Few::Zero;
     let mut i = 0;
@@ -126,8 +128,8 @@ fn since_of(permanent: &[u8], bases: Few) -> Instant
     match bases {
         Few::Zero => Instant(0),
         Few::One(place) => {
-            let stride = stride_of(permanent);
-            let period = period_of(record_at(permanent, 32 + 8 * stride, place));
+            let size = record_size(permanent);
+            let period = period_of(record_at(permanent, size, place));
             period.begin
         }
         Few::More => Instant(0),
@@ -137,13 +139,17 @@ fn since_of(permanent: &[u8], bases: Few) -> Instant
 // The one pass over a permanent table, for the properties from one up to another and the life times: its
 // BASELINEs, and then the changes behind them.
 pub(crate) fn survey_permanent(permanent: &[u8], instant: Instant, from: usize, to: usize) -> Survey
-    requires { ⌜ (countOf (now permanent) ≤ roomOf (recordSize (strideOf (now permanent))) (now permanent)) × (Rising sliceKey keyLess sameKey (slicesOf (now permanent)) × ((from ≤ to) × (to ≤ 8))) ⌝ }
-    ensures bases { λ r. ⌜ r .bases ≡ tallyFrom (stands (slicesOf (now (permanent .entry))) instant) 0 Zero (slicesOf (now (permanent .entry))) ⌝ }
-    ensures openings { λ r. ⌜ r .openings ≡ tallyFrom (opensDue (sinceOf (now (permanent .entry)) (r .bases)) instant) 0 Zero (slicesOf (now (permanent .entry))) ⌝ }
-    ensures marks { λ r. ⌜ (length (r .latest .marks) ≡ 10) × ((q : ℕ) → wanted from to q ≡ true → getD (r .latest .marks) q nothing ≡ markDue (latestDue q (sinceOf (now (permanent .entry)) (r .bases)) instant (slicesOf (now (permanent .entry))))) ⌝ }
+    requires { ⌜ Walkable (now permanent) × ((from ≤ to) × (to ≤ 8)) ⌝ }
+    ensures bases { λ r. ⌜ r .bases
+        ≡ tallyFrom (stands (slicesOf (now (permanent .entry))) instant) 0 Zero (slicesOf (now (permanent .entry))) ⌝ }
+    ensures openings { λ r. ⌜ r .openings
+        ≡ tallyFrom (opensDue (sinceOf (now (permanent .entry)) (r .bases)) instant) 0 Zero (slicesOf (now (permanent .entry))) ⌝ }
+    ensures marks { λ r. ⌜ (length (r .latest .marks) ≡ 10)
+        × ((q : ℕ) → wanted from to q ≡ true → getD (r .latest .marks) q nothing
+        ≡ markDue (latestDue q (sinceOf (now (permanent .entry)) (r .bases)) instant (slicesOf (now (permanent .entry))))) ⌝ }
 {
     let stride = stride_of(permanent);
-    let size = 32 + 8 * stride;
+    let size = record_size(permanent);
     let count = count_of(permanent) as usize;
     let front = front_of(permanent, instant);
     let bases = front.bases;

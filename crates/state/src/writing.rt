@@ -2,12 +2,12 @@
 ghost use mathlib.Core.Path.{_≡_};
 ghost use Prim.Native.Nat.{_+_, _*_, _≤_, _<_};
 ghost use mathlib.Core.List.{_++_};
-ghost use lib.ListN.{length, getD, replicate};
+ghost use lib.ListN.{length, replicate};
 ghost use Rattle.octets.specs.Writing.{pasted};
-ghost use Rattle.slice.specs.Record.{recordSize};
-ghost use Rattle.table.specs.Header.{countOf, strideOf, roomOf};
+ghost use Rattle.table.specs.Header.{countOf, strideOf};
+ghost use Rattle.table.specs.Steps.{Whole};
 ghost use Rattle.state.specs.Written.{stateKind, stateTimes, nilUnknown};
-ghost use Rattle.state.specs.Steps.{nothing, Known, lifeFrom, saidAt, propertyBy, propertyFrom, runOf};
+ghost use Rattle.state.specs.Steps.{Stored, Told, Ready, lifeFrom, saidAt, propertyBy, propertyFrom, runOf};
 use crate::anchor::Start;
 use crate::anchor::life_at;
 use crate::anchor::origin;
@@ -18,15 +18,16 @@ use octets::put;
 use octets::put32;
 use slice::Life;
 use table::record_at;
+use table::record_size;
 use table::stride_of;
 
 // The life times of a state: of the records that tell them last.
 fn life_of_state(permanent: &[u8], start: Start, mentions: Latest) -> Life
-    requires { ⌜ (length (mentions .marks) ≡ 10) × ((countOf (now permanent) ≤ roomOf (recordSize (strideOf (now permanent))) (now permanent)) × (start .place < countOf (now permanent))) ⌝ }
+    requires { ⌜ (length (mentions .marks) ≡ 10) × Stored (now permanent) (start .place) ⌝ }
     ensures { λ r. ⌜ r ≡ lifeFrom (now (permanent .entry)) start (mentions .marks) ⌝ }
 {
     let stride = stride_of(permanent);
-    let size = 32 + 8 * stride;
+    let size = record_size(permanent);
     let anchor = record_at(permanent, size, start.place);
     let eighth = mentions.marks[8];
     let ninth = mentions.marks[9];
@@ -54,7 +55,8 @@ fn put_times(record: &mut [u8], instant: Instant, life: Life)
 // Writes what comes before the properties.
 fn put_head(record: &mut [u8], instant: Instant, life: Life)
     requires { ⌜ 32 ≤ length (now «record») ⌝ }
-    ensures { λ _. ⌜ now («record» .exit) ≡ pasted (now («record» .entry)) 0 (stateKind ++ (stateTimes instant life ++ replicate 8 0)) ⌝ }
+    ensures { λ _. ⌜ now («record» .exit)
+        ≡ pasted (now («record» .entry)) 0 (stateKind ++ (stateTimes instant life ++ replicate 8 0)) ⌝ }
 {
     put(record, 0, &[4, 0, 0, 0, 0, 0, 0, 0]);
     put_times(record, instant, life);
@@ -74,8 +76,9 @@ fn put_unknown(record: &mut [u8], at: usize, stride: usize)
 
 // Writes property n as the record of a place and one says it; nil, unknown where there is no record.
 fn put_property(record: &mut [u8], table: &[u8], n: usize, from: usize)
-    requires { ⌜ (n < 8) × ((countOf (now table) ≤ roomOf (recordSize (strideOf (now table))) (now table)) × (from ≤ countOf (now table))) ⌝ }
-    ensures { λ _. ⌜ now («record» .exit) ≡ pasted (now («record» .entry)) (32 + n * strideOf (now (table .entry))) (saidAt (now (table .entry)) n from) ⌝ }
+    requires { ⌜ (n < 8) × (Whole (now table) × (from ≤ countOf (now table))) ⌝ }
+    ensures { λ _. ⌜ now («record» .exit)
+        ≡ pasted (now («record» .entry)) (32 + n * strideOf (now (table .entry))) (saidAt (now (table .entry)) n from) ⌝ }
 {
     let stride = stride_of(table);
     let at = 32 + n * stride;
@@ -83,7 +86,7 @@ fn put_property(record: &mut [u8], table: &[u8], n: usize, from: usize)
         put_unknown(record, at, stride);
         return;
     }
-    let source = record_at(table, 32 + 8 * stride, from - 1);
+    let source = record_at(table, record_size(table), from - 1);
     put(record, at, &source[at..at + stride]);
 }
 
@@ -97,15 +100,17 @@ fn put_latest(
     over: usize,
     n: usize,
 )
-    requires { ⌜ (n < 8) × ((countOf (now permanent) ≤ roomOf (recordSize (strideOf (now permanent))) (now permanent)) × ((countOf (now temporary) ≤ roomOf (recordSize (strideOf (now temporary))) (now temporary)) × ((start .place < countOf (now permanent)) × ((under .from ≤ countOf (now permanent)) × (over ≤ countOf (now temporary)))))) ⌝ }
-    ensures { λ _. ⌜ now («record» .exit) ≡ pasted (now («record» .entry)) (32 + n * strideOf (now (permanent .entry))) (propertyBy (now (permanent .entry)) (now (temporary .entry)) start under over n) ⌝ }
+    requires { ⌜ (n < 8) × Told (now permanent) (now temporary) start under over ⌝ }
+    ensures { λ _. ⌜ now («record» .exit)
+        ≡ pasted (now («record» .entry)) (32 + n * strideOf (now (permanent .entry)))
+        (propertyBy (now (permanent .entry)) (now (temporary .entry)) start under over n) ⌝ }
 {
     if over != 0 {
         put_property(record, temporary, n, over);
         return;
     }
     let stride = stride_of(permanent);
-    let anchor = record_at(permanent, 32 + 8 * stride, start.place);
+    let anchor = record_at(permanent, record_size(permanent), start.place);
     let from = origin(anchor, stride, start, under, n);
     put_property(record, permanent, n, from);
 }
@@ -119,8 +124,10 @@ fn put_properties(
     mentions: Latest,
     passing: [usize; 8],
 )
-    requires { ⌜ (length (now «record») ≡ recordSize (strideOf (now permanent))) × ((countOf (now permanent) ≤ roomOf (recordSize (strideOf (now permanent))) (now permanent)) × ((countOf (now temporary) ≤ roomOf (recordSize (strideOf (now temporary))) (now temporary)) × ((start .place < countOf (now permanent)) × ((length (mentions .marks) ≡ 10) × ((length passing ≡ 8) × (Known (countOf (now permanent)) (λ q. getD (mentions .marks) q nothing .from) × Known (countOf (now temporary)) (λ q. getD passing q 0))))))) ⌝ }
-    ensures { λ _. ⌜ now («record» .exit) ≡ pasted (now («record» .entry)) 32 (runOf (propertyFrom (now (permanent .entry)) (now (temporary .entry)) start (mentions .marks) passing) 8) ⌝ }
+    requires { ⌜ Ready (now «record») (now permanent) (now temporary) start (mentions .marks) passing ⌝ }
+    ensures { λ _. ⌜ now («record» .exit)
+        ≡ pasted (now («record» .entry)) 32
+        (runOf (propertyFrom (now (permanent .entry)) (now (temporary .entry)) start (mentions .marks) passing) 8) ⌝ }
 {
     let mut n = 0;
     while n < 8 {
@@ -141,8 +148,11 @@ pub(crate) fn put_state(
     mentions: Latest,
     passing: [usize; 8],
 )
-    requires { ⌜ (length (now «record») ≡ recordSize (strideOf (now permanent))) × ((countOf (now permanent) ≤ roomOf (recordSize (strideOf (now permanent))) (now permanent)) × ((countOf (now temporary) ≤ roomOf (recordSize (strideOf (now temporary))) (now temporary)) × ((start .place < countOf (now permanent)) × ((length (mentions .marks) ≡ 10) × ((length passing ≡ 8) × (Known (countOf (now permanent)) (λ q. getD (mentions .marks) q nothing .from) × Known (countOf (now temporary)) (λ q. getD passing q 0))))))) ⌝ }
-    ensures { λ _. ⌜ now («record» .exit) ≡ stateKind ++ (stateTimes instant (lifeFrom (now (permanent .entry)) start (mentions .marks)) ++ (replicate 8 0 ++ runOf (propertyFrom (now (permanent .entry)) (now (temporary .entry)) start (mentions .marks) passing) 8)) ⌝ }
+    requires { ⌜ Ready (now «record») (now permanent) (now temporary) start (mentions .marks) passing ⌝ }
+    ensures { λ _. ⌜ now («record» .exit)
+        ≡ stateKind ++ (stateTimes instant (lifeFrom (now (permanent .entry)) start (mentions .marks))
+        ++ (replicate 8 0
+        ++ runOf (propertyFrom (now (permanent .entry)) (now (temporary .entry)) start (mentions .marks) passing) 8)) ⌝ }
 {
     put_head(record, instant, life_of_state(permanent, start, mentions));
     put_properties(record, permanent, temporary, start, mentions, passing);

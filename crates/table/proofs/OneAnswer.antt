@@ -13,6 +13,8 @@ use Rattle.table.proofs.header.count_of.Kinds as count-of-k
 use Rattle.table.proofs.header.count_of.Reads as count-of
 use Rattle.table.proofs.header.stride_of.Kinds as stride-of-k
 use Rattle.table.proofs.header.stride_of.Reads as stride-of
+use Rattle.table.proofs.header.record_size.Kinds as record-size-k
+use Rattle.table.proofs.header.record_size.Reads as record-size
 use Rattle.table.proofs.header.room_of.Kinds as room-of-k
 use Rattle.table.proofs.header.room_of.Reads as room-of
 use Rattle.table.proofs.header.record_at.Kinds as record-at-k
@@ -39,6 +41,9 @@ count-of-one κs a = (tt, λ z z' ws ws' p q. (same p q, refl))
 
 pub stride-of-one : OneAnswer stride-of-k.ps stride-of-k.r stride-of.Asked stride-of.Learnt
 stride-of-one κs a = (tt, λ z z' ws ws' p q. (same p q, refl))
+
+pub record-size-one : OneAnswer record-size-k.ps record-size-k.r record-size.Asked record-size.Learnt
+record-size-one κs a = (tt, λ z z' ws ws' p q. (same p q, refl))
 
 pub room-of-one : OneAnswer room-of-k.ps room-of-k.r room-of.Asked room-of.Learnt
 room-of-one κs a = (tt, λ z z' ws ws' p q. (same p q, refl))

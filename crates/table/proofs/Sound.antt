@@ -18,6 +18,7 @@ use Rattle.slice.proofs.Sound.{refused-apart, refused-tells}
 use Rattle.table.specs.Header.{lettered, sideOf, versionOf, countOf, featureOf, strideOf, roomOf, recordsOf}
 use Rattle.table.specs.Rules.{takes, fails, inOrder, tableTests, checkTable, orderTests, checkOrder}
 use Rattle.table.specs.Arriving.{refusedArrival, recordOf, filingOf, arrivalOf}
+use Rattle.table.specs.Steps.{Ordered}
 use Rattle.table.specs.declared.check.Sides.{Sides}
 use Rattle.table.specs.declared.check.Sides.the-variants.{Both}
 use Rattle.table.specs.declared.arrival.Arrival.{Arrival}
@@ -62,12 +63,11 @@ module _ (sides : Sides) (t : List ℕ) where
   unfolding checkOrder orderTests
   sound-order h = answer-given refused Sound (orderTests (strideOf t) t) (le-ltb _ _ (h .roomy), (ap not (h .rising), tt))
 
-pub order-sound : (t : List ℕ) → checkOrder t ≡ Sound
-    → (countOf t ≤ roomOf (recordSize (strideOf t)) t) × (inOrder (recordsOf (recordSize (strideOf t)) t) ≡ true)
+pub order-sound : (t : List ℕ) → checkOrder t ≡ Sound → Ordered (recordSize (strideOf t)) t
 unfolding checkOrder orderTests
 order-sound t e =
     let p = given-passed refused Sound refused-apart (orderTests (strideOf t) t) e in
-    (ltb-false _ _ (p .0), not-false _ (p .1 .0))
+    record { roomy = ltb-false _ _ (p .0); rising = not-false _ (p .1 .0) }
 
 -- a table is refused with the number of the first test that it fails, and with no other
 module _ (sides : Sides) (t : List ℕ) (n : ℕ) where

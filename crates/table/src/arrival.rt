@@ -1,19 +1,18 @@
 // The arrival of a slice: its record is put in its place, takes the stored one's room, or changes nothing.
 ghost use mathlib.Core.Path.{_≡_};
-ghost use mathlib.Core.Bool.{true};
 ghost use mathlib.Core.List.{[]};
 ghost use Prim.Native.Nat.{_+_, _*_, _≤_, _<_};
 ghost use lib.ListN.{length, getD};
 ghost use Rattle.slice.specs.Record.{recordSize};
 ghost use Rattle.laws.specs.Lists.{insertedAt, replacedAt};
 ghost use Rattle.table.specs.Header.{countOf, strideOf, roomOf, recordsOf, written};
-ghost use Rattle.table.specs.Rules.{inOrder};
 ghost use Rattle.table.specs.Arriving.{recordOf, filingOf, arrivalOf, arrivalReply, changed, after};
-ghost use Rattle.table.specs.Steps.{placeFor, holds, answerTo};
+ghost use Rattle.table.specs.Steps.{Roomy, Ordered, placeFor, holds, answerTo};
 use crate::check::Sides;
 use crate::check::check_table;
 use crate::header::count_of;
 use crate::header::record_at;
+use crate::header::record_size;
 use crate::header::room_of;
 use crate::header::side_of;
 use crate::header::stride_of;
@@ -27,6 +26,7 @@ use slice::Refusal;
 use slice::check_slice;
 use slice::correction_of;
 use slice::key_of;
+use slice::refusals;
 
 // What an arrival answers.
 pub enum Arrival {
@@ -40,7 +40,7 @@ pub enum Arrival {
 // The place of the first record whose key is not below a key: the records stand in rising order, so
 // that half of what is left is passed over at each turn.
 fn place_of(table: &[u8], size: usize, count: usize, key: Key) -> usize
-    requires { ⌜ (count ≡ countOf (now table)) × (count ≤ roomOf size (now table)) × (inOrder (recordsOf size (now table)) ≡ true) ⌝ }
+    requires { ⌜ (count ≡ countOf (now table)) × Ordered size (now table) ⌝ }
     ensures { λ r. ⌜ (r ≡ placeFor key (recordsOf size (now (table .entry)))) × (r ≤ count) ⌝ }
 {
     let mut low = 0;
@@ -59,7 +59,7 @@ fn place_of(table: &[u8], size: usize, count: usize, key: Key) -> usize
 
 // Whether the record at a place has a key.
 fn is_held(table: &[u8], size: usize, count: usize, at: usize, key: Key) -> bool
-    requires { ⌜ (count ≡ countOf (now table)) × (count ≤ roomOf size (now table)) ⌝ }
+    requires { ⌜ (count ≡ countOf (now table)) × Roomy size (now table) ⌝ }
     ensures { λ r. ⌜ r ≡ holds key at (recordsOf size (now (table .entry))) ⌝ }
 {
     if at < count {
@@ -71,8 +71,10 @@ fn is_held(table: &[u8], size: usize, count: usize, at: usize, key: Key) -> bool
 
 // Puts a record in as the one at a place, and the later ones one place up.
 fn insert(table: &mut [u8], size: usize, count: usize, at: usize, record: &[u8])
-    requires { ⌜ (count ≡ countOf (now table)) × (at ≤ count) × (count < roomOf size (now table)) × (length (now «record») ≡ size) ⌝ }
-    ensures { λ _. ⌜ now (table .exit) ≡ written (now (table .entry)) (insertedAt at (now («record» .entry)) (recordsOf size (now (table .entry)))) ⌝ }
+    requires { ⌜ (count ≡ countOf (now table)) × (at ≤ count) × (count < roomOf size (now table))
+        × (length (now «record») ≡ size) ⌝ }
+    ensures { λ _. ⌜ now (table .exit)
+        ≡ written (now (table .entry)) (insertedAt at (now («record» .entry)) (recordsOf size (now (table .entry)))) ⌝ }
 {
     let from = 32 + at * size;
     let to = 32 + count * size;
@@ -83,9 +85,10 @@ fn insert(table: &mut [u8], size: usize, count: usize, at: usize, record: &[u8])
 
 // The answer to a record whose key the one at a place has: a higher correction takes its room.
 fn correct(table: &mut [u8], size: usize, at: usize, record: &[u8]) -> Arrival
-    requires { ⌜ (at < countOf (now table)) × (countOf (now table) ≤ roomOf size (now table)) × (length (now «record») ≡ size) ⌝ }
+    requires { ⌜ (at < countOf (now table)) × Roomy size (now table) × (length (now «record») ≡ size) ⌝ }
     ensures answer { λ r. ⌜ r ≡ answerTo (now («record» .entry)) (getD (recordsOf size (now (table .entry))) at []) ⌝ }
-    ensures buffer { λ r. ⌜ now (table .exit) ≡ changed r (now (table .entry)) (replacedAt at (now («record» .entry)) (recordsOf size (now (table .entry)))) ⌝ }
+    ensures buffer { λ r. ⌜ now (table .exit)
+        ≡ changed r (now (table .entry)) (replacedAt at (now («record» .entry)) (recordsOf size (now (table .entry)))) ⌝ }
 {
     let stored = correction_of(record_at(table, size, at));
     let sent = correction_of(record);
@@ -100,14 +103,15 @@ fn correct(table: &mut [u8], size: usize, at: usize, record: &[u8]) -> Arrival
     if same(record, record_at(table, size, at)) {
         return Arrival::Repeat;
     }
-    Arrival::Refused(Refusal { number: 17 })
+    Arrival::Refused(refusals::OTHER_BYTES)
 }
 
 // Files a record that passed the slice check in a table that passed its own: 17, 18, or an accepted
 // answer.
 fn file(table: &mut [u8], size: usize, record: &[u8]) -> Arrival
-    requires { ⌜ (countOf (now table) ≤ roomOf size (now table)) × (inOrder (recordsOf size (now table)) ≡ true) × (length (now «record») ≡ size) ⌝ }
-    ensures answer { λ r. ⌜ r ≡ filingOf (roomOf size (now (table .entry))) (now («record» .entry)) (recordsOf size (now (table .entry))) ⌝ }
+    requires { ⌜ Ordered size (now table) × (length (now «record») ≡ size) ⌝ }
+    ensures answer { λ r. ⌜ r
+        ≡ filingOf (roomOf size (now (table .entry))) (now («record» .entry)) (recordsOf size (now (table .entry))) ⌝ }
     ensures buffer { λ r. ⌜ now (table .exit) ≡ after r size (now (table .entry)) (now («record» .entry)) ⌝ }
 {
     let count = count_of(table) as usize;
@@ -117,7 +121,7 @@ fn file(table: &mut [u8], size: usize, record: &[u8]) -> Arrival
         return correct(table, size, at, record);
     }
     if count == room_of(table, size) {
-        return Arrival::Refused(Refusal { number: 18 });
+        return Arrival::Refused(refusals::TABLE_FULL);
     }
     insert(table, size, count, at, record);
     Arrival::Added
@@ -139,5 +143,6 @@ pub fn arrive(table: &mut [u8], slice: &[u8]) -> Arrival
     if let Checked::Refused(refusal) = check_slice(slice, stride, &table[8..24], side) {
         return Arrival::Refused(refusal);
     }
-    file(table, 32 + 8 * stride, &slice[16..])
+    let size = record_size(table);
+    file(table, size, &slice[16..])
 }

@@ -1,22 +1,23 @@
 // The check of a table: rules 1 to 7, in their order.
 ghost use mathlib.Core.Path.{_≡_};
-ghost use Prim.Native.Nat.{_≤_};
 ghost use Rattle.slice.specs.Record.{recordSize};
 ghost use Rattle.slice.specs.Check.{checkedReply};
-ghost use Rattle.table.specs.Header.{countOf, roomOf, recordsOf};
+ghost use Rattle.table.specs.Header.{countOf, recordsOf};
 ghost use Rattle.table.specs.Rules.{takes, failing, inOrder, checkTable, checkOrder};
+ghost use Rattle.table.specs.Steps.{Roomy};
 use crate::header::count_of;
 use crate::header::is_lettered;
 use crate::header::record_at;
+use crate::header::record_size;
 use crate::header::room_of;
 use crate::header::side_of;
 use crate::header::stride_of;
 use octets::be16;
 use octets::blank8;
 use slice::Checked;
-use slice::Refusal;
 use slice::check_record;
 use slice::key_of;
+use slice::refusals;
 
 // The sides that a call takes.
 pub enum Sides {
@@ -44,7 +45,7 @@ pub fn takes_side(sides: Sides, side: u8) -> bool
 
 // The first record of a table that fails 11 to 16.
 fn first_failing(table: &[u8], stride: usize, size: usize, count: usize, side: u8) -> Found
-    requires { ⌜ (size ≡ recordSize stride) × (count ≡ countOf (now table)) × (count ≤ roomOf size (now table)) ⌝ }
+    requires { ⌜ (size ≡ recordSize stride) × (count ≡ countOf (now table)) × Roomy size (now table) ⌝ }
     ensures { λ r. ⌜ r ≡ failing stride side (recordsOf size (now (table .entry))) ⌝ }
 {
     let mut i = 0;
@@ -59,7 +60,7 @@ fn first_failing(table: &[u8], stride: usize, size: usize, count: usize, side: u
 
 // Whether the records of a table stand in strictly rising order.
 fn is_in_order(table: &[u8], size: usize, count: usize) -> bool
-    requires { ⌜ (count ≡ countOf (now table)) × (count ≤ roomOf size (now table)) ⌝ }
+    requires { ⌜ (count ≡ countOf (now table)) × Roomy size (now table) ⌝ }
     ensures { λ r. ⌜ r ≡ inOrder (recordsOf size (now (table .entry))) ⌝ }
 {
     if count == 0 {
@@ -83,29 +84,29 @@ pub fn check_table(table: &[u8], sides: Sides) -> Checked
     ensures { λ r. ⌜ checkedReply r ≡ checkedReply (checkTable sides (now (table .entry))) ⌝ }
 {
     if table.len() < 32 {
-        return Checked::Refused(Refusal { number: 1 });
+        return Checked::Refused(refusals::TABLE_TOO_SHORT);
     }
     let side = side_of(table);
     if !(is_lettered(table) & takes_side(sides, side)) {
-        return Checked::Refused(Refusal { number: 2 });
+        return Checked::Refused(refusals::LETTERS_OR_SIDE);
     }
     if be16(table, 4) != 1 {
-        return Checked::Refused(Refusal { number: 3 });
+        return Checked::Refused(refusals::VERSION);
     }
     if !blank8(table, 24) {
-        return Checked::Refused(Refusal { number: 4 });
+        return Checked::Refused(refusals::HEADER_NOT_ZERO);
     }
     let stride = stride_of(table);
-    let size = 32 + 8 * stride;
+    let size = record_size(table);
     let count = count_of(table) as usize;
     if room_of(table, size) < count {
-        return Checked::Refused(Refusal { number: 5 });
+        return Checked::Refused(refusals::COUNT_OVER_ROOM);
     }
     let Found::Nowhere = first_failing(table, stride, size, count, side) else {
-        return Checked::Refused(Refusal { number: 6 });
+        return Checked::Refused(refusals::RECORD_IN_TABLE);
     };
     if !is_in_order(table, size, count) {
-        return Checked::Refused(Refusal { number: 7 });
+        return Checked::Refused(refusals::RECORD_ORDER);
     }
     Checked::Sound
 }
@@ -115,13 +116,13 @@ pub fn check_table(table: &[u8], sides: Sides) -> Checked
 pub fn check_order(table: &[u8]) -> Checked
     ensures { λ r. ⌜ checkedReply r ≡ checkedReply (checkOrder (now (table .entry))) ⌝ }
 {
-    let size = 32 + 8 * stride_of(table);
+    let size = record_size(table);
     let counted = count_of(table) as usize;
     if room_of(table, size) < counted {
-        return Checked::Refused(Refusal { number: 5 });
+        return Checked::Refused(refusals::COUNT_OVER_ROOM);
     }
     if !is_in_order(table, size, counted) {
-        return Checked::Refused(Refusal { number: 7 });
+        return Checked::Refused(refusals::RECORD_ORDER);
     }
     Checked::Sound
 }

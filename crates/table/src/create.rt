@@ -4,8 +4,8 @@ ghost use Rattle.table.specs.Arriving.{creationOf, creationReply, create
 use crate::check::Sides;
 use crate::check::takes_side;
 use octets::put;
-use octets::put16;
 use slice::Refusal;
+use slice::refusals;
 
 // What making a table answers.
 pub enum Creation {
@@ -20,10 +20,10 @@ pub fn new_table(table: &mut [u8], side: u8, feature: &[u8; 16]) -> Creation
     ensures buffer { λ r. ⌜ now (table .exit) ≡ created r (now (table .entry)) side (now (feature .entry)) ⌝ }
 {
     if table.len() < 32 {
-        return Creation::Refused(Refusal { number: 1 });
+        return Creation::Refused(refusals::TABLE_TOO_SHORT);
     }
     if !takes_side(Sides::Both, side) {
-        return Creation::Refused(Refusal { number: 2 });
+        return Creation::Refused(refusals::LETTERS_OR_SIDE);
     }
     let front = [b'T', b'S', b'L', side, 0, 1, 0, 0];
     put(table, 0, &front);

@@ -1,6 +1,7 @@
 // The header of a table and the places of its records.
 ghost use mathlib.Core.Path.{_≡_};
 ghost use Prim.Native.Nat.{_+_};
+ghost use Rattle.slice.specs.Record.{recordSize};
 ghost use Rattle.table.specs.Header.{lettered, sideOf, countOf, strideOf, roomOf, placeOf, recordAt};
 use octets::be16;
 use octets::byte;
@@ -31,6 +32,13 @@ pub fn stride_of(table: &[u8]) -> usize
     ensures { λ r. ⌜ r ≡ strideOf (now (table .entry)) ⌝ }
 {
     24
+}
+
+// How many bytes a record has in a table: 32, and those of its eight properties.
+pub fn record_size(table: &[u8]) -> usize
+    ensures { λ r. ⌜ r ≡ recordSize (strideOf (now (table .entry))) ⌝ }
+{
+    32 + 8 * stride_of(table)
 }
 
 // How many records of a size a table has room for: the lesser of 256 and those that fit. Records of no

@@ -14,6 +14,7 @@ pub use create::Creation;
 pub use create::new_table;
 pub use header::count_of;
 pub use header::record_at;
+pub use header::record_size;
 pub use header::room_of;
 pub use header::side_of;
 pub use header::stride_of;

@@ -5,7 +5,8 @@ ghost use mathlib.Core.List.{_∷_, [], _++_, map};
 ghost use lib.ListN.{length};
 ghost use Rattle.laws.specs.Lists.{joined};
 ghost use Rattle.slice.specs.Record.{recordSize, partsOf};
-ghost use Rattle.table.specs.Header.{countOf, strideOf, roomOf, recordsOf};
+ghost use Rattle.table.specs.Header.{countOf, strideOf, recordsOf};
+ghost use Rattle.table.specs.Steps.{Whole};
 ghost use Rattle.text.specs.Listing.{digitsOf, decimalOf, endOf, formOf, lineOf, textOf};
 ghost use Rattle.text.specs.Wrote.{Wrote};
 ghost use Rattle.baselines.specs.declared.derivation.Derivation.the-variants.{Derived, Refused};
@@ -18,6 +19,7 @@ use slice::key_of;
 use slice::period_of;
 use table::count_of;
 use table::record_at;
+use table::record_size;
 use table::stride_of;
 
 // Writes some letters.
@@ -67,7 +69,9 @@ fn put_end(s: &mut [u8], at: usize, end: Instant) -> usize
 // Writes the begin of a period, and its end or `-`, and a space behind each.
 fn put_period(s: &mut [u8], at: usize, period: Period) -> usize
     requires { ⌜ at + 22 ≤ length (now s) ⌝ }
-    ensures { λ r. ⌜ Wrote 22 (now (s .entry)) at ((decimalOf (period .begin .0) ++ (32 ∷ [])) ++ (endOf (period .end) ++ (32 ∷ []))) (now (s .exit)) r ⌝ }
+    ensures { λ r. ⌜ Wrote 22 (now (s .entry)) at
+        ((decimalOf (period .begin .0) ++ (32 ∷ [])) ++ (endOf (period .end) ++ (32 ∷ [])))
+        (now (s .exit)) r ⌝ }
 {
     let begin = period.begin;
     let until = period.end;
@@ -105,11 +109,14 @@ fn put_line(s: &mut [u8], at: usize, record: &[u8], stride: usize) -> usize
 
 // Writes the lines of a table's records.
 fn put_lines(s: &mut [u8], at: usize, table: &[u8]) -> usize
-    requires { ⌜ (countOf (now table) ≤ roomOf (recordSize (strideOf (now table))) (now table)) × (at + 42 * countOf (now table) ≤ length (now s)) ⌝ }
-    ensures { λ r. ⌜ Wrote (42 * countOf (now (table .entry))) (now (s .entry)) at (joined (map (lineOf (strideOf (now (table .entry)))) (recordsOf (recordSize (strideOf (now (table .entry)))) (now (table .entry))))) (now (s .exit)) r ⌝ }
+    requires { ⌜ Whole (now table) × (at + 42 * countOf (now table) ≤ length (now s)) ⌝ }
+    ensures { λ r. ⌜ Wrote (42 * countOf (now (table .entry))) (now (s .entry)) at
+        (joined (map (lineOf (strideOf (now (table .entry))))
+        (recordsOf (recordSize (strideOf (now (table .entry)))) (now (table .entry)))))
+        (now (s .exit)) r ⌝ }
 {
     let stride = stride_of(table);
-    let size = 32 + 8 * stride;
+    let size = record_size(table);
     let count = count_of(table) as usize;
     let mut end = at;
     let mut i = 0;
@@ -122,8 +129,11 @@ fn put_lines(s: &mut [u8], at: usize, table: &[u8]) -> usize
 
 // Writes the text of a derived table: how many records it has, and their lines.
 pub(crate) fn put_derived(s: &mut [u8], table: &[u8]) -> usize
-    requires { ⌜ (countOf (now table) ≤ roomOf (recordSize (strideOf (now table))) (now table)) × (10771 ≤ length (now s)) ⌝ }
-    ensures { λ r. ⌜ Wrote 10771 (now (s .entry)) 0 (textOf (Derived (countOf (now (table .entry)))) (strideOf (now (table .entry))) (recordsOf (recordSize (strideOf (now (table .entry)))) (now (table .entry)))) (now (s .exit)) r ⌝ }
+    requires { ⌜ Whole (now table) × (10771 ≤ length (now s)) ⌝ }
+    ensures { λ r. ⌜ Wrote 10771 (now (s .entry)) 0
+        (textOf (Derived (countOf (now (table .entry)))) (strideOf (now (table .entry)))
+        (recordsOf (recordSize (strideOf (now (table .entry)))) (now (table .entry))))
+        (now (s .exit)) r ⌝ }
 {
     let first = put_letters(s, 0, b"derived ");
     let second = put_digits(s, first, 10, count_of(table) as u32);

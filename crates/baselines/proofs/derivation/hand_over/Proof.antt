@@ -8,7 +8,7 @@ use lib.Seq.{length-take-le}
 use borrow.Author.Tests.{lt-ltb, le-ltb}
 use Rattle.laws.specs.Lists.{joined}
 use Rattle.octets.specs.Writing.{pasted}
-use Rattle.slice.specs.Record.{permanent, recordSize}
+use Rattle.slice.specs.Record.{permanent}
 use Rattle.table.specs.Header.{featureOf, headerOf}
 use Rattle.baselines.specs.Deriving.{derivedRecords}
 use Rattle.baselines.specs.Steps.{handedOf}
@@ -18,15 +18,15 @@ use borrow.Author.Needs.{needs}
 use Rattle.baselines.proofs.derivation.hand_over.Statement.{statement}
 use Rattle.baselines.proofs.derivation.hand_over.Tie as tie
 
-abbrev start : tie.After-stride-of → tie.Start
+abbrev start : tie.After-record-size → tie.Start
 start c = c .before .before .before .before
 
 abbrev records : tie.Start → List (List ℕ)
 records s = derivedRecords (s .args .permanent .now)
 
 -- the length of the records, as a number
-sized : (c : tie.After-stride-of) → start c .args .count * (32 + 8 * c .stride-of .result) ≡ start c .args .count * 224
-sized c = ap (λ (n : ℕ). start c .args .count * recordSize n) (c .stride-of .ensures)
+sized : (c : tie.After-record-size) → start c .args .count * c .record-size .result ≡ start c .args .count * 224
+sized c = ap (λ (n : ℕ). start c .args .count * n) (c .record-size .ensures)
 
 long : (s : tie.Start) → length (joined (records s)) ≡ s .args .count * 224
 long s =
@@ -34,9 +34,9 @@ long s =
     ∙ length-take-le (s .args .count * 224) (s .args .drawn .now) (omega (arith, s .pre .1 .0, s .pre .1 .1 .1 .0))
 
 -- the records, as the part that is handed on
-part : (c : tie.After-stride-of) → take (start c .args .count * (32 + 8 * c .stride-of .result) - 0) (start c .args .drawn .now) ≡ joined (records (start c))
+part : (c : tie.After-record-size) → take (start c .args .count * c .record-size .result - 0) (start c .args .drawn .now) ≡ joined (records (start c))
 part c =
-    let n : start c .args .count * (32 + 8 * c .stride-of .result) - 0 ≡ start c .args .count * 224 = omega (arith, sized c) in
+    let n : start c .args .count * c .record-size .result - 0 ≡ start c .args .count * 224 = omega (arith, sized c) in
     ap (λ (m : ℕ). take m (start c .args .drawn .now)) n ∙ start c .pre .1 .1 .1 .1
 
 returns : tie.Need-returns
@@ -74,8 +74,6 @@ hand-over-spec =
     tie.close
     (tie.spec
     (λ c κs. search needs)
-    (λ c. search needs)
-    (λ c. search needs)
     (λ c. omega (arith, sized c, start c .pre .1 .0))
     (λ c. omega (arith, sized c, start c .pre .1 .0))
     returns

@@ -65,16 +65,16 @@ absent : (c : tie.After-struct-known Inv-loop μ-loop) → start (c .before .bef
 unfolding noInstant
 absent c = let n = none-false (start (c .before .before .before) .args .instant) (start (c .before .before .before) .pre .1 .1 .1 .1 .0) in omega (arith, n, c .struct-known .given)
 
--- the record is read by the stride that the table told
-read : (c : tie.After-record-at Inv-loop μ-loop) → let l = c .before .before .before .before .before .before in Read (table l) (l .loop .i) (l .before .before .stride-of .result) (c .record-at .result .now)
+-- the record is read by the size that the table told
+read : (c : tie.After-record-at Inv-loop μ-loop) → let l = c .before .before .before .before .before .before .before in Read (table l) (l .loop .i) (l .before .before .stride-of .result) (c .record-at .result .now)
 read c =
-    let k = c .before .before .before .before .before in
+    let k = c .before .before .before .before .before .before in
     let l = k .before in
-    read-here (table l) (l .loop .i) (l .before .before .stride-of .ensures) (c .record-at .ensures .0) (roomy l) (inside k)
+    read-here (table l) (l .loop .i) (c .before .record-size .ensures) (c .record-at .ensures .0) (l .before .before .stride-of .ensures) (roomy l) (inside k)
 
 apply-requires : tie.Need-apply-requires Inv-loop μ-loop
 apply-requires c κs =
-    let l = c .before .before .before .before .before .before in
+    let l = c .before .before .before .before .before .before .before in
     (read c .sized, l .loop .inv .1 .1 .0 ∙ start l .pre .1 .1 .1 .1 .1 ∙ sym (ap recordSize (l .before .before .stride-of .ensures)))
 
 loop-again : tie.Need-loop-again Inv-loop μ-loop
@@ -90,7 +90,7 @@ loop-again c =
     let fronted = s .pre .1 .1 .0 in
     let late : a .instant .0 < noInstant = absent known in
     ⊎-elim
-    (λ (y, g, r, u, v, w, e). (
+    (λ (y, g, z, r, u, v, w, e). (
       omega arith,
       (
         omega arith,
@@ -98,7 +98,7 @@ loop-again c =
           ap length e ∙ v .given ∙ l .loop .inv .1 .1 .0,
           λ t h. let (x, q, f) = l .loop .inv .1 .1 .1 t h in
               let turns : Turns (strideOf p) (λ z. applied z (viewOf (strideOf p) (recordAt (recordSize (strideOf p)) i p))) (l .loop .«record») (u .last .0) =
-              subst (λ (d : List ℕ). Turns (strideOf p) (λ z. applied z (viewOf (strideOf p) d)) (l .loop .«record») (u .last .0)) (read-by p i (l .before .before .stride-of .ensures) (r .ensures .0))
+              subst (λ (d : List ℕ). Turns (strideOf p) (λ z. applied z (viewOf (strideOf p) d)) (l .loop .«record») (u .last .0)) (read-by p i (z .ensures) (r .ensures .0))
               (subst (λ (m : ℕ). Turns m (λ z. applied z (viewOf m (r .result .now))) (l .loop .«record») (u .last .0)) (l .before .before .stride-of .ensures) (u .ensures)) in
               (applied x (viewOf (strideOf p) (recordAt (recordSize (strideOf p)) i p)), rw e (turns x q), sym (next-applied p (a .begins .now) ends gones (a .front) (s .pre .0) noted fronted (a .instant) late i (l .loop .inv .0) (inside k) x (y .taken)) ∙ f),
         ),
@@ -136,8 +136,7 @@ apply-at-spec =
     loop-holds
     (λ c. omega (arith, low c))
     (λ c. omega (arith, low (c .before), start (c .before .before) .pre .1 .1 .1 .0))
-    (λ c. search needs)
-    (λ c. search needs)
+    (λ c κs. search needs)
     (λ c κs. search needs)
     apply-requires
     (λ c. omega arith)

@@ -95,7 +95,7 @@ module _ (q : tie.After-is) where
   alone = held ready .one (found .if2 .left)
 
   read : q .before .before .before .record-at .result .now ≡ base
-  read = read-by (table ready) place (q .before .before .before .before .stride-of .ensures) (q .before .before .before .record-at .ensures .0)
+  read = read-by (table ready) place (q .before .before .before .before .record-size .ensures) (q .before .before .before .record-at .ensures .0)
 
   begin-is : q .is .result ≡ sameInstant (periodOf base .begin) (instant ready)
   begin-is = q .is .ensures ∙ ap (λ (w : Period). sameInstant (w .begin) (instant ready)) (q .before .before .period-of .ensures ∙ ap periodOf read)
@@ -165,8 +165,8 @@ open-went c =
 went : (c : tie.Joined1) → let k = c .before in Went (table k) (bytes k) (sound k) (instant k) (start k .args .current .now)
 went c =
     ⊎-elim
-    (λ (i1, k5, i2, st, ra, pe, be, is, i3, k6, i4).
-    let q : tie.After-is = record { before = record { before = record { before = record { before = record { before = record { before = record { before = record { before = c .before; if1 = i1 }; struct-known5 = k5 }; if2 = i2 }; stride-of = st }; record-at = ra }; period-of = pe }; begin = be }; is = is } in
+    (λ (i1, k5, i2, rs, ra, pe, be, is, i3, k6, i4).
+    let q : tie.After-is = record { before = record { before = record { before = record { before = record { before = record { before = record { before = record { before = c .before; if1 = i1 }; struct-known5 = k5 }; if2 = i2 }; record-size = rs }; record-at = ra }; period-of = pe }; begin = be }; is = is } in
     based-went (record { before = record { before = record { before = q; if3 = i3 }; struct-known6 = k6 }; if4 = i4 }))
     (λ i1. open-went (record { before = c .before; if1 = i1 }))
     (c .if1 .came)
@@ -194,8 +194,6 @@ go-on-spec =
     (λ c. search needs)
     returns
     (λ c κs. search needs)
-    (λ c. search needs)
-    (λ c. search needs)
     (λ c κs. search needs)
     (λ c κs. search needs)
     (λ c κs. search needs)

@@ -26,7 +26,7 @@ read : (c : tie.After-byte Inv-loop μ-loop) → let l = c .before .before .befo
     c .byte .result ≡ kindOf (recordAt (recordSize (strideOf (start l .args .permanent .now))) (l .loop .i) (start l .args .permanent .now))
 read c =
     let l = c .before .before .before in
-    c .byte .ensures ∙ ap kindOf (read-by (start l .args .permanent .now) (l .loop .i) (l .before .before .stride-of .ensures) (c .before .record-at .ensures .0))
+    c .byte .ensures ∙ ap kindOf (read-by (start l .args .permanent .now) (l .loop .i) (l .before .before .record-size .ensures) (c .before .record-at .ensures .0))
 
 returns : tie.Need-returns Inv-loop μ-loop
 returns c =
@@ -52,8 +52,6 @@ front-end-spec =
     Inv-loop
     μ-loop
     (λ c κs. search needs)
-    (λ c. search needs)
-    (λ c. search needs)
     (λ c κs. search needs)
     (λ c. search needs)
     (λ c. (omega arith, λ j h. absurd (omega arith)))

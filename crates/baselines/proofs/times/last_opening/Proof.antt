@@ -59,7 +59,7 @@ loop-again c =
     let p = s .args .permanent .now in
     let i = l .loop .i in
     let (here, (low, so-far)) = l .loop .inv in
-    let read = read-by p i (l .before .before .stride-of .ensures) (k .record-at .ensures .0) in
+    let read = read-by p i (l .before .before .record-size .ensures) (k .record-at .ensures .0) in
     let none : n .is-none .result ≡ isNone (lifeOf (recordAt (recordSize (strideOf p)) i p) .begin) = n .is-none .ensures ∙ ap (λ (x : Life). isNone (x .begin)) (n .before .before .life-of .ensures ∙ ap lifeOf read) in (
       omega arith,
       (
@@ -86,8 +86,6 @@ last-opening-spec =
     Inv-loop
     μ-loop
     (λ c κs. search needs)
-    (λ c. search needs)
-    (λ c. search needs)
     (λ c κs. search needs)
     (λ c. search needs)
     (λ c. (omega arith, (omega arith, record { one = inl refl; most = λ j time l h. absurd (omega arith) })))

@@ -41,7 +41,7 @@ loop-again c =
     let w = l .loop .inv .1 .1 .0 in
     let g = l .loop .inv .1 .1 .1 .0 in
     let all = l .loop .inv .1 .1 .1 .1 in
-    let r = read-by p (l .loop .i) (l .before .before .stride-of .ensures) (o .before .record-at .ensures .0) in
+    let r = read-by p (l .loop .i) (l .before .before .record-size .ensures) (o .before .record-at .ensures .0) in
     let period = o .period-of .ensures ∙ ap periodOf r in
     let life = v .life-of .ensures ∙ ap lifeOf r in
     (omega arith, (simp length-set n, (simp length-set w, (simp length-set g, noted-turn p (l .loop .begins) (l .loop .ends) (l .loop .gones) (l .loop .i) _ _ _ (omega arith) (omega arith) (omega arith) all (ap (λ x. x .begin .0) period) (ap (λ x. x .end .0) period) (ap (λ x. x .end .0) life)))))
@@ -53,8 +53,6 @@ note-spec =
     Inv-loop
     μ-loop
     (λ c κs. search needs)
-    (λ c. search needs)
-    (λ c. search needs)
     (λ c κs. search needs)
     (λ c. search needs)
     loop-holds

@@ -64,20 +64,20 @@ content k =
 
 returns : tie.Need-returns
 returns c =
-    let d = c .before .before .before in
-    let told = c .before .enum-told .given in
-    c .refuse-with .ensures ∙ sym (counted-is (S d) (R d) ∙ rw (survey-bad (S d) (drop 32 (R d)) (told .0 .0) (sym (eight d) ∙ told .1)))
+    let d = c .before .before in
+    let told = c .enum-told .given in
+    sym (counted-is (S d) (R d) ∙ rw (survey-bad (S d) (drop 32 (R d)) (told .0 .0) (sym (eight d) ∙ told .1)))
 
 returns-2 : tie.Need-returns-2
 returns-2 c =
-    let t = c .before .before in
-    c .refuse-with2 .ensures ∙ sym (past14 (mentions-of t) ∙ rw (sym (times t) ∙ not-true _ (c .before .if1 .taken)))
+    let t = c .before in
+    sym (past14 (mentions-of t) ∙ rw (sym (times t) ∙ not-true _ (c .if1 .taken)))
 
 returns-3 : tie.Need-returns-3
 returns-3 c =
-    let k = c .before .before in
+    let k = c .before in
     let t = k .before .before in
-    c .refuse-with3 .ensures ∙ sym (past14 (mentions-of t) ∙ rw (sym (times t) ∙ not-false _ (k .before .if1 .left), sym (content k) ∙ not-true _ (c .before .if2 .taken)))
+    sym (past14 (mentions-of t) ∙ rw (sym (times t) ∙ not-false _ (k .before .if1 .left), sym (content k) ∙ not-true _ (c .if2 .taken)))
 
 returns-4 : tie.Need-returns-4
 returns-4 c =
@@ -95,15 +95,12 @@ check-counted-spec =
     (λ c κs. search needs)
     (λ c. search needs)
     (λ c. search needs)
-    (λ c κs. search needs)
     returns
     (λ c κs. search needs)
     (λ c κs. search needs)
     (λ c κs. search needs)
     (λ c κs. search needs)
-    (λ c κs. search needs)
     returns-2
-    (λ c κs. search needs)
     (λ c κs. search needs)
     returns-3
     returns-4)

@@ -57,16 +57,16 @@ whole c = eqb-true _ _ (size (c .before .before .before .before .before))
 
 returns : tie.Need-returns
 returns c =
-    ap checkedReply (c .refuse-with .ensures ∙ sym (record-is _ _ _ ∙ rw (sym (c .before .before .is-sized .ensures) ∙ not-true _ (c .before .if1 .taken))))
+    ap checkedReply (sym (record-is _ _ _ ∙ rw (sym (c .before .is-sized .ensures) ∙ not-true _ (c .if1 .taken))))
 
 returns-2 : tie.Need-returns-2
 returns-2 c =
-    let t = c .before .before in
-    ap checkedReply (c .refuse-with2 .ensures ∙ sym (past9 (t .before .before) ∙ rules-are _ _ _ ∙ rw (sym (taken t) ∙ not-true _ (c .before .if2 .taken))))
+    let t = c .before in
+    ap checkedReply (sym (past9 (t .before .before) ∙ rules-are _ _ _ ∙ rw (sym (taken t) ∙ not-true _ (c .if2 .taken))))
 
 returns-3 : tie.Need-returns-3
 returns-3 c =
-    ap checkedReply (c .refuse-with3 .ensures ∙ sym (past11 (c .before .before .before) ∙ rw (sym (c .before .before .reserved-clear .ensures) ∙ not-true _ (c .before .if3 .taken))))
+    ap checkedReply (sym (past11 (c .before .before) ∙ rw (sym (c .before .reserved-clear .ensures) ∙ not-true _ (c .if3 .taken))))
 
 returns-4 : tie.Need-returns-4
 returns-4 c =
@@ -75,9 +75,10 @@ returns-4 c =
 
 returns-5 : tie.Need-returns-5
 returns-5 c =
-    let m = c .before .before in
+    let m = c .before in
     let k = m .before .before in
-    ap checkedReply (c .refuse-with4 .ensures ∙ sym (past12 (k .before) ∙ rw (sym (k .is-cancelled .ensures) ∙ not-false _ (m .before .if4 .left), sym (m .is-emptied .ensures) ∙ not-true _ (c .before .if5 .taken))))
+    ap checkedReply
+    (sym (past12 (k .before) ∙ rw (sym (k .is-cancelled .ensures) ∙ not-false _ (m .before .if4 .left), sym (m .is-emptied .ensures) ∙ not-true _ (c .if5 .taken))))
 
 returns-6 : tie.Need-returns-6
 returns-6 c =
@@ -90,19 +91,15 @@ check-record-spec =
     tie.close
     (tie.spec
     (λ c κs. search needs)
-    (λ c κs. search needs)
     returns
     (λ c κs. search needs)
     (λ c κs. search needs)
-    (λ c κs. search needs)
     returns-2
-    (λ c κs. search needs)
     (λ c κs. search needs)
     returns-3
     (λ c κs. search needs)
     (λ c κs. whole (c .before .before))
     returns-4
     (λ c κs. whole (c .before .before))
-    (λ c κs. search needs)
     returns-5
     returns-6)

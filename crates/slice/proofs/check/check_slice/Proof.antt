@@ -47,12 +47,12 @@ record-size c = length-drop 16 (B (s1 c)) ∙ omega (arith, size c)
 
 returns : tie.Need-returns
 returns c =
-    ap checkedReply (c .refuse-with .ensures ∙ sym (slice-is _ _ _ _ ∙ rw (sym (c .before .before .is-sized .ensures) ∙ not-true _ (c .before .if1 .taken))))
+    ap checkedReply (sym (slice-is _ _ _ _ ∙ rw (sym (c .before .is-sized .ensures) ∙ not-true _ (c .if1 .taken))))
 
 returns-2 : tie.Need-returns-2
 returns-2 c =
-    let m = c .before .before in
-    ap checkedReply (c .refuse-with2 .ensures ∙ sym (past9 (m .before .before) ∙ rw (sym (m .same .ensures) ∙ not-true _ (c .before .if2 .taken))))
+    let m = c .before in
+    ap checkedReply (sym (past9 (m .before .before) ∙ rw (sym (m .same .ensures) ∙ not-true _ (c .if2 .taken))))
 
 returns-3 : tie.Need-returns-3
 returns-3 c =
@@ -67,12 +67,10 @@ check-slice-spec =
     tie.close
     (tie.spec
     (λ c κs. search needs)
-    (λ c κs. search needs)
     returns
     (λ c. search needs)
     (λ c. search needs)
     (λ c. omega (arith, size c))
-    (λ c κs. search needs)
     (λ c κs. search needs)
     returns-2
     (λ c. omega (arith, size (c .before .before .before)))

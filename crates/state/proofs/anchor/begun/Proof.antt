@@ -1,5 +1,5 @@
 -- `state::anchor::begun` meets its contract: the start and the life end that it works out are those of the definition. Assumes nothing.
-use Prim.Native.Nat.{ℕ, _+_, _*_}
+use Prim.Native.Nat.{ℕ}
 use mathlib.Core.Path.{_≡_, sym, ap, ap₂, _∙_}
 use mathlib.Core.Bool.{not, _&&_}
 use mathlib.Core.List.{List}
@@ -21,15 +21,15 @@ use Rattle.state.proofs.anchor.begun.Statement.{statement}
 use Rattle.state.proofs.anchor.begun.Tie as tie
 
 abbrev asked : tie.After-key-of → tie.Start
-asked c = c .before .before .before .before .before
+asked c = c .before .before .before .before .before .before
 
 abbrev anchor : tie.After-key-of → List ℕ
 anchor c = let a = asked c .args in recordAt (recordSize (strideOf (a .permanent .now))) (a .place) (a .permanent .now)
 
-read : (c : tie.After-key-of) → Read (asked c .args .permanent .now) (asked c .args .place) (c .before .before .before .stride-of .result) (c .before .before .record-at .result .now)
+read : (c : tie.After-key-of) → Read (asked c .args .permanent .now) (asked c .args .place) (c .before .before .before .before .stride-of .result) (c .before .before .record-at .result .now)
 read c =
     let s = asked c in
-    read-here (s .args .permanent .now) (s .args .place) (c .before .before .before .stride-of .ensures) (c .before .before .record-at .ensures .0) (s .pre .1 .0) (s .pre .1 .1)
+    read-here (s .args .permanent .now) (s .args .place) (c .before .before .before .record-size .ensures) (c .before .before .record-at .ensures .0) (c .before .before .before .before .stride-of .ensures) (s .pre .1 .whole) (s .pre .1 .below)
 
 abbrev made : tie.After-key-of → Start
 made c = record { based = asked c .args .based; place = asked c .args .place; begin = c .before .period-of .result .begin; sequence = c .key-of .result .sequence }
@@ -39,17 +39,17 @@ made-is c =
     ap₂ (λ (p : Period) (k : Key). record { based = asked c .args .based; place = asked c .args .place; begin = p .begin; sequence = k .sequence })
     (c .before .period-of .ensures ∙ ap periodOf (read c .is)) (c .key-of .ensures ∙ ap keyOf (read c .is))
 
-ended : (c : tie.After-life-at) → let a = c .before .before .before .before .before .before .before .before .before .before .args in
+ended : (c : tie.After-life-at) → let a = c .before .before .before .before .before .before .before .before .before .before .before .args in
     c .life-at .result .end ≡ endedAt (a .instant) (a .permanent .now) (getD (a .t3 .marks) 9 nothing) (a .based) (a .place)
 ended c =
-    let a = c .before .before .before .before .before .before .before .before .before .before .args in
+    let a = c .before .before .before .before .before .before .before .before .before .before .before .args in
     let k = c .before .before .before .before .before in
     let m = getD (a .t3 .marks) 9 nothing in
     ap (λ (l : Life). l .end) (c .life-at .ensures
-    ∙ (ap (λ (n : ℕ). lifeAt (32 + 8 * n) (a .permanent .now) (c .before .origin .result)) (c .before .before .before .before .before .before .before .before .stride-of .ensures)
+    ∙ (ap (λ (k : ℕ). lifeAt k (a .permanent .now) (c .before .origin .result)) (c .before .before .before .before .before .before .before .before .record-size .ensures)
     ∙ ap (lifeAt (recordSize (strideOf (a .permanent .now))) (a .permanent .now)) (c .before .origin .ensures ∙ ap₂ (λ (s : Start) (v : Slice). originOf s (tells 9 v) m) (made-is k) (read k .seen))))
 
-test : (c : tie.After-at-most) → let end = c .before .before .before .life-at .result .end in (not (c .before .is-none .result) && c .at-most .result) ≡ (given end && atMost end (c .before .before .before .before .before .before .before .before .before .before .before .before .before .args .instant))
+test : (c : tie.After-at-most) → let end = c .before .before .before .life-at .result .end in (not (c .before .is-none .result) && c .at-most .result) ≡ (given end && atMost end (c .before .before .before .before .before .before .before .before .before .before .before .before .before .before .args .instant))
 test c = ap₂ (λ x y. not x && y) (c .before .is-none .ensures) (c .at-most .ensures)
 
 origin-requires : tie.Need-origin-requires
@@ -65,8 +65,7 @@ begun-spec =
     tie.close
     (tie.spec
     (λ c κs. search needs)
-    (λ c. search needs)
-    (λ c. search needs)
+    (λ c κs. search needs)
     (λ c κs. search needs)
     (λ c κs. search needs)
     (λ c κs. search needs)

@@ -8,12 +8,12 @@ use Rattle.state.proofs.anchor.settle.Tie as tie
 begun-requires : tie.Need-begun-requires
 begun-requires c κs =
     let s = c .before .before .before .before .before .before .before in
-    (s .pre .0, (s .pre .1 .0, one-below _ _ _ (c .before .openings .given .1) (s .pre .1 .1 .1)))
+    (s .pre .0, record { whole = s .pre .1 .0; below = one-below _ _ _ (c .before .openings .given .1) (s .pre .1 .1 .1) })
 
 begun-requires-2 : tie.Need-begun-requires-2
 begun-requires-2 c κs =
     let s = c .before .before .before .before .before in
-    (s .pre .0, (s .pre .1 .0, one-below _ _ _ (c .before .bases .given .1) (s .pre .1 .1 .0)))
+    (s .pre .0, record { whole = s .pre .1 .0; below = one-below _ _ _ (c .before .bases .given .1) (s .pre .1 .1 .0) })
 
 pub settle-spec : {M : Type 1} → statement M
 settle-spec =

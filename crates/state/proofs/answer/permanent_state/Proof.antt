@@ -4,9 +4,8 @@ use Rattle.slice.specs.declared.check.Checked.the-variants.{Sound}
 use Rattle.slice.proofs.Replies.{checked-told}
 use Rattle.table.specs.Rules.{checkTable}
 use Rattle.table.specs.declared.check.Sides.the-variants as sides
-use Rattle.table.proofs.Sound.{sound-table}
 use Rattle.state.specs.Asking.{outcomeReply}
-use Rattle.state.proofs.Slices.{sound-rising}
+use Rattle.state.proofs.Slices.{sound-walkable}
 use Rattle.state.proofs.Stages.{state-refused, state-left}
 use borrow.Author.Needs.{needs}
 use Rattle.state.proofs.answer.permanent_state.Statement.{statement}
@@ -27,4 +26,4 @@ returns-2 c =
 pub permanent-state-spec : {M : Type 1} → statement M
 permanent-state-spec =
     tie.close
-    (tie.spec (λ c κs. search needs) (λ c. search needs) returns (λ c. search needs) (λ c κs. (sound-table sides.Permanent _ (sound (c .before)) .roomy, sound-rising _ sides.Permanent (sound (c .before)))) (λ c. search needs) returns-2)
+    (tie.spec (λ c κs. search needs) (λ c. search needs) returns (λ c. search needs) (λ c κs. sound-walkable _ sides.Permanent (sound (c .before))) (λ c. search needs) returns-2)

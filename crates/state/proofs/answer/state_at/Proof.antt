@@ -5,7 +5,7 @@ use Rattle.slice.proofs.Replies.{checked-told}
 use Rattle.table.specs.Rules.{checkOrder}
 use Rattle.table.proofs.Sound.{order-sound}
 use Rattle.state.specs.Asking.{outcomeReply}
-use Rattle.state.proofs.Slices.{slices-rising}
+use Rattle.state.proofs.Slices.{ordered-walkable}
 use Rattle.state.proofs.Stages.{order-refused, order-left}
 use borrow.Author.Needs.{needs}
 use Rattle.state.proofs.answer.state_at.Statement.{statement}
@@ -15,7 +15,7 @@ sound : (c : tie.After-enum-told) → checkOrder (c .before .before .before .bef
 sound c = sym (checked-told _ _ (c .before .before .check-order .ensures)) ∙ c .enum-told .given .1
 
 write-state-requires : tie.Need-write-state-requires
-write-state-requires c κs = let s = order-sound _ (sound (c .before)) in (s .0, slices-rising _ (s .1))
+write-state-requires c κs = ordered-walkable _ (order-sound _ (sound (c .before)))
 
 returns : tie.Need-returns
 returns c =

@@ -3,7 +3,7 @@ use Prim.Native.Nat.{ℕ}
 use mathlib.Core.Path.{_≡_, refl, sym, ap, subst, _∙_}
 use mathlib.Core.List.{List}
 use native.Mathlib.Omega.{arith}
-use lib.ListN.{length, getD, replicate, getD-replicate}
+use lib.ListN.{length, replicate, getD-replicate}
 use Rattle.slice.specs.Record.{recordSize}
 use Rattle.table.specs.Header.{strideOf}
 use Rattle.history.specs.Anchor.{stands}
@@ -31,7 +31,7 @@ standing s = permanentAt (s .args .instant) (slicesOf (table s))
 
 -- 19 and 23 are past
 fits : (c : tie.Else2) → length (start c .args .«record» .now) ≡ recordSize (strideOf (table (start c)))
-fits c = c .if2 .left ∙ ap recordSize (c .before .stride-of .ensures)
+fits c = c .if2 .left ∙ c .before .record-size .ensures
 
 asked : (c : tie.Else2) → let s = start c in outcomeOf (standing s) ≡ leftOf (table s) (s .args .instant) (s .args .«record» .now) (standing s)
 asked c = left-asked _ _ _ (standing (start c)) (sym (c .before .before .before .is-none .ensures) ∙ c .before .before .if1 .left) (fits c)
@@ -41,7 +41,7 @@ surveyed : (c : tie.After-survey-permanent) → let s = start (c .before) in Sur
 surveyed c =
     let s = start (c .before) in
     let (bases, (openings, (long, marks))) = c .survey-permanent .ensures in
-    record { roomy = s .pre .0; rising = s .pre .1; bases = bases; openings = openings; long = long; marks = marks }
+    record { walkable = s .pre; bases = bases; openings = openings; long = long; marks = marks }
 
 abbrev Stood : tie.After-survey-permanent → anchor.Standing → Type 0
 Stood k = let s = start (k .before) in Settled (sinceOf (table s) (k .survey-permanent .result .bases)) (s .args .instant) (table s)
@@ -55,34 +55,25 @@ begun c = subst (Stood (c .before .before .before)) (c .start .given .1) (stood 
 returns-2 : tie.Need-returns-2
 returns-2 c =
     let s = c .before .before .before .before .before .before in
-    (left-misfit _ _ _ (standing s) (sym (c .before .before .before .is-none .ensures) ∙ c .before .before .if1 .left) (λ e. c .if2 .taken (e ∙ sym (ap recordSize (c .before .stride-of .ensures)))), refl)
+    (left-misfit _ _ _ (standing s) (sym (c .before .before .before .is-none .ensures) ∙ c .before .before .if1 .left) (λ e. c .if2 .taken (e ∙ sym (c .before .record-size .ensures))), refl)
 
 survey-permanent-requires : tie.Need-survey-permanent-requires
-survey-permanent-requires c κs = let s = start c in (s .pre .0, (s .pre .1, (omega arith, omega arith)))
+survey-permanent-requires c κs = (start c .pre, (omega arith, omega arith))
 
 put-state-requires : tie.Need-put-state-requires
 put-state-requires c κs =
     let k = c .before .before .before .before .before .before in
     let s = start (k .before) in
-    let r = s .pre .0 in (
-      fits (k .before),
-      (
-        r,
-        (
-          r,
-          (
-            begun (c .before .before .before) .place,
-            (
-              k .survey-permanent .ensures .1 .1 .0,
-              (
-                refl,
-                (λ q h. mark-known _ _ _ _ _ (surveyed k) q (omega arith) h, λ q h. rw (getD-replicate {A = ℕ} 8 q 0 0 h) (omega arith)),
-              ),
-            ),
-          ),
-        ),
-      ),
-    )
+    let r = s .pre .whole in
+    record {
+      sized = fits (k .before);
+      anchor = record { whole = r; below = begun (c .before .before .before) .place };
+      whole = r;
+      ten = surveyed k .long;
+      eight = refl;
+      below = λ q h. mark-known _ _ _ _ _ (surveyed k) q (omega arith) h;
+      above = λ q h. rw (getD-replicate {A = ℕ} 8 q 0 0 h) (omega arith);
+    }
 
 returns-3 : tie.Need-returns-3
 returns-3 c =
@@ -98,7 +89,7 @@ returns-4 c =
     let b = begun (c .before .before .before .before .before .before) in (
       sym (ap outcomeOf (b .state)) ∙ asked (k .before),
       c .before .before .put-state .ensures
-          ∙ (state-filled _ (s .args .instant) (table s) (s .pre .0) (s .pre .1) _ b (k .survey-permanent .result .latest .marks) (surveyed k .marks) (table s) (replicate {A = ℕ} 8 0) (λ q h. getD-replicate {A = ℕ} 8 q 0 0 h)
+          ∙ (state-filled _ (s .args .instant) (table s) (s .pre .whole) (s .pre .rising) _ b (k .survey-permanent .result .latest .marks) (surveyed k .marks) (table s) (replicate {A = ℕ} 8 0) (λ q h. getD-replicate {A = ℕ} 8 q 0 0 h)
           ∙ sym (ap (λ (v : Standing). recordOf (strideOf (table s)) (s .args .instant) v (s .args .«record» .now)) (b .state))),
     )
 
@@ -109,8 +100,6 @@ write-state-spec =
     (λ c κs. search needs)
     (λ c. (left-none _ _ _ (standing (c .before .before .before .before)) (sym (c .before .is-none .ensures) ∙ c .if1 .taken), refl))
     (λ c κs. search needs)
-    (λ c. search needs)
-    (λ c. search needs)
     returns-2
     survey-permanent-requires
     (λ c κs. settle-asks _ _ _ _ _ (surveyed c))

@@ -37,13 +37,13 @@ abbrev μ-loop : tie.MeasureT-loop
 -- the record that a turn looks at, and the slice that it says
 module _ (k : tie.After-record-at Inv-loop2 μ-loop2 Inv-loop μ-loop) where
   abbrev start : tie.Start Inv-loop2 μ-loop2 Inv-loop μ-loop
-  start = k .before .before .before .before .before .before
+  start = k .before .before .before .before .before .before .before
 
   abbrev table : List ℕ
   table = start .args .temporary .now
 
   abbrev stride : ℕ
-  stride = k .before .before .before .before .stride-of .result
+  stride = k .before .before .before .before .before .stride-of .result
 
   abbrev place : ℕ
   place = k .before .before .loop .i
@@ -59,7 +59,7 @@ module _ (k : tie.After-record-at Inv-loop2 μ-loop2 Inv-loop μ-loop) where
   below = omega arith
 
   read : Read table place stride (k .record-at .result .now)
-  read = read-here table place (k .before .before .before .before .stride-of .ensures) (k .record-at .ensures .0) (start .pre) below
+  read = read-here table place (k .before .before .before .before .record-size .ensures) (k .record-at .ensures .0) (k .before .before .before .before .before .stride-of .ensures) (start .pre) below
 
   next : drop place (slicesOf table) ≡ here ∷ drop (place + 1) (slicesOf table)
   next = slices-at table place below (start .pre)
@@ -128,7 +128,7 @@ loop-again c =
 returns : tie.Need-returns Inv-loop2 μ-loop2 Inv-loop μ-loop
 returns c =
     let l = c .before .loop in
-    let a = c .before .before .before .before .before .args in
+    let a = c .before .before .before .before .before .before .args in
     (l .inv .1 .0, λ q h. keeps-end (latestWith (λ a b. true) (λ d. valid (a .instant) d && tells q d)) placeAndOne (getD (l .places) q 0) (latestValid q (a .instant) (slicesOf (a .temporary .now))) (l .i) _ (slices-end (a .temporary .now) (l .i) (omega arith)) (l .inv .1 .1 q h))
 
 pub overlay-spec : {M : Type 1} → statement M
@@ -140,8 +140,7 @@ overlay-spec =
     Inv-loop
     μ-loop
     (λ c κs. search needs)
-    (λ c. search needs)
-    (λ c. search needs)
+    (λ c κs. search needs)
     (λ c κs. search needs)
     (λ c. search needs)
     loop-holds

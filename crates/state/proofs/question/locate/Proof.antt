@@ -1,26 +1,25 @@
 -- `state::question::locate` meets its contract: past the tests, the survey settles the standing, and the two marks tell the place. Assumes nothing.
-use Prim.Native.Nat.{ℕ, _+_, _≤_, _<_}
+use Prim.Native.Nat.{ℕ, _+_, _<_}
 use mathlib.Core.Path.{_≡_, sym, ap, subst, _∙_}
 use mathlib.Core.Bool.{false, _||_}
 use mathlib.Core.List.{List}
 use native.Mathlib.Omega.{arith}
 use lib.Dec.{ltb}
-use Rattle.laws.specs.Keyed.{Rising}
 use Rattle.laws.proofs.Tests.{tests, or-neither}
 use Rattle.numbers.specs.Numbers.{isNone}
-use Rattle.slice.specs.Record.{recordSize, keyLess, sameKey}
+use Rattle.slice.specs.Record.{recordSize}
 use Rattle.slice.specs.declared.check.Checked.the-variants.{Sound}
-use Rattle.table.specs.Header.{countOf, strideOf, roomOf}
+use Rattle.table.specs.Header.{strideOf}
 use Rattle.table.specs.Rules.{checkTable}
+use Rattle.table.specs.Steps.{Whole}
 use Rattle.table.specs.declared.check.Sides.the-variants as sides
 use Rattle.table.proofs.Records.{room-most}
 use Rattle.table.proofs.Sound.{sound-table}
-use Rattle.history.specs.Counted.{sliceKey}
 use Rattle.history.specs.Anchor.{stands}
 use Rattle.history.specs.Permanent.{Standing, permanentAt}
 use Rattle.state.specs.Asking.{slicesOf, checkBoth, placeAt, placeOf, placeReply}
-use Rattle.state.specs.Steps.{sinceOf}
-use Rattle.state.proofs.Slices.{sound-rising}
+use Rattle.state.specs.Steps.{Walkable, sinceOf}
+use Rattle.state.proofs.Slices.{sound-rising, sound-walkable}
 use Rattle.state.specs.declared.anchor.Standing as anchor
 use Rattle.state.specs.declared.anchor.Standing.the-variants.{From}
 use Rattle.state.specs.declared.question.Place.{Place}
@@ -53,14 +52,11 @@ module _ (c : tie.After-enum-told) where
   sound : (checkTable sides.Permanent table ≡ Sound) × (checkTable sides.Temporary other ≡ Sound)
   sound = both-sound table other checked
 
-  roomy : countOf table ≤ roomOf (recordSize (strideOf table)) table
-  roomy = sound-table sides.Permanent table (sound .0) .roomy
+  walkable : Walkable table
+  walkable = sound-walkable table sides.Permanent (sound .0)
 
-  roomy2 : countOf other ≤ roomOf (recordSize (strideOf other)) other
-  roomy2 = sound-table sides.Temporary other (sound .1) .roomy
-
-  up : Rising sliceKey keyLess sameKey (slicesOf table)
-  up = sound-rising table sides.Permanent (sound .0)
+  whole2 : Whole other
+  whole2 = sound-table sides.Temporary other (sound .1) .roomy
 
 -- 19 is past
 test : (c : tie.After-is-none) → let a = start (c .before) .args in (c .is-none .result || ltb 7 (a .property)) ≡ (isNone (a .instant) || ltb 7 (a .property))
@@ -79,7 +75,7 @@ told c = c .before .before .before
 surveyed : (c : tie.After-survey-permanent) → let n = start (told c) .args .property in Surveyed (start (told c) .args .instant) (table (told c)) n (n + 1) (c .survey-permanent .result)
 surveyed c =
     let (bases, (openings, (long, marks))) = c .survey-permanent .ensures in
-    record { roomy = roomy (told c); rising = up (told c); bases = bases; openings = openings; long = long; marks = marks }
+    record { walkable = walkable (told c); bases = bases; openings = openings; long = long; marks = marks }
 
 abbrev Stood : tie.After-survey-permanent → anchor.Standing → Type 0
 Stood k = Settled (sinceOf (table (told k)) (k .survey-permanent .result .bases)) (start (told k) .args .instant) (table (told k))
@@ -95,16 +91,13 @@ placed-requires c κs =
     let v = c .before .before .before .before .before .before .before in
     let k = told v in
     let n = start k .args .property in
-    let over = known-valid (start k .args .instant) (other k) (roomy2 k) n _ (c .before .overlay .ensures .1 n (small (v .before))) in (
+    let over = known-valid (start k .args .instant) (other k) (whole2 k) n _ (c .before .overlay .ensures .1 n (small (v .before))) in (
       small (v .before),
       (
-        roomy k,
+        record { whole = walkable k .whole; below = begun (c .before .before .before .before) .place },
         (
-          begun (c .before .before .before .before) .place,
-          (
-            mark-known _ _ _ _ _ (surveyed v) n (omega arith) (omega arith),
-            omega (arith, over, roomy2 k, room-most (recordSize (strideOf (other k))) (other k)),
-          ),
+          mark-known _ _ _ _ _ (surveyed v) n (omega arith) (omega arith),
+          omega (arith, over, whole2 k, room-most (recordSize (strideOf (other k))) (other k)),
         ),
       ),
     )
@@ -122,7 +115,7 @@ returns-4 c =
     let n = start k .args .property in
     ap placeReply
     (c .placed .ensures
-    ∙ (placed-is _ (start k .args .instant) (table k) (other k) (roomy k) (up k) (roomy2 k) (sound-rising (other k) sides.Temporary (sound k .1)) _ (begun (c .before .before .before .before .before)) n (small (v .before))
+    ∙ (placed-is _ (start k .args .instant) (table k) (other k) (walkable k .whole) (walkable k .rising) (whole2 k) (sound-rising (other k) sides.Temporary (sound k .1)) _ (begun (c .before .before .before .before .before)) n (small (v .before))
     _ (mark-due _ _ _ _ _ (surveyed v) n (omega arith) (omega arith)) _ (c .before .before .overlay .ensures .1 n (small (v .before)))
     ∙ asked (v .before)))
 
@@ -137,11 +130,11 @@ locate-spec =
     (λ c κs. search needs)
     (λ c. ap placeReply (place-none _ _ _ _ (checked (c .before .before)) (sym (test (c .before)) ∙ c .if1 .taken)))
     (λ c. search needs)
-    (λ c κs. (roomy (c .before .before), (up (c .before .before), (omega arith, omega (arith, small c)))))
+    (λ c κs. (walkable (c .before .before), (omega arith, omega (arith, small c))))
     (λ c κs. settle-asks _ _ _ _ _ (surveyed c))
     (λ c. search needs)
     (λ c. search needs)
-    (λ c κs. roomy2 (c .before .before .before .before .before .before .before .before))
+    (λ c κs. whole2 (c .before .before .before .before .before .before .before .before))
     (λ c. omega (arith, small (c .before .before .before .before .before .before .before)))
     (λ c. omega (arith, small (c .before .before .before .before .before .before .before)))
     (λ c. omega (arith, small (c .before .before .before .before .before .before .before .before)))

@@ -53,10 +53,10 @@ module _ (k : tie.After-record-at Inv-loop μ-loop) where
   below = omega arith
 
   read : k .record-at .result .now ≡ recordAt (recordSize (strideOf table)) place table
-  read = read-by table place (k .before .before .before .before .stride-of .ensures) (k .record-at .ensures .0)
+  read = read-by table place (k .before .before .before .before .record-size .ensures) (k .record-at .ensures .0)
 
   next : drop place (slicesOf table) ≡ here ∷ drop (place + 1) (slicesOf table)
-  next = slices-at table place below (start .pre .0)
+  next = slices-at table place below (start .pre .whole)
 
   -- those that hold, and all that do
   abbrev test : Slice → Bool
@@ -81,7 +81,7 @@ returns c =
     let l = k .before .before .loop in
     let rest = drop (place k + 1) (slicesOf (table k)) in
     let high : baseline < here k .kind = omega (arith, kind (c .before), c .if1 .taken) in
-    let up = subst (Rising sliceKey keyLess sameKey) (next k) (rising-drop sliceKey keyLess sameKey key-order (place k) (slicesOf (table k)) (start k .pre .1)) in (
+    let up = subst (Rising sliceKey keyLess sameKey) (next k) (rising-drop sliceKey keyLess sameKey key-order (place k) (slicesOf (table k)) (start k .pre .rising)) in (
       keeps-rest (tallyWith (test k)) (λ few. few) (l .bases) (all k) (place k) (here k ∷ rest)
           (λ d m s n. tally-past (test k) n d (none-stands (slicesOf (table k)) (start k .args .instant) d (kinds-rise (here k) rest up high d m)) s)
           (subst (Keeps (tallyWith (test k)) (λ few. few) (l .bases) (all k) (place k)) (next k) (l .inv .1 .0)),
@@ -101,7 +101,7 @@ loop-again c =
             (c .if2 .came),
         λ j d h.
             by-test (eqb j (place k))
-            (λ y. let e : j ≡ place k = omega tests in rw (ap (λ (n : ℕ). getD (slicesOf (table k)) n d) e ∙ slice-at (table k) (place k) d (below k) (start k .pre .0)) low)
+            (λ y. let e : j ≡ place k = omega tests in rw (ap (λ (n : ℕ). getD (slicesOf (table k)) n d) e ∙ slice-at (table k) (place k) d (below k) (start k .pre .whole)) low)
             (λ n. l .inv .1 .1 j d (omega tests)),
       ),
     )
@@ -120,8 +120,6 @@ front-of-spec =
     Inv-loop
     μ-loop
     (λ c κs. search needs)
-    (λ c. search needs)
-    (λ c. search needs)
     (λ c κs. search needs)
     (λ c. search needs)
     (λ c. (omega arith, ((Zero, refl, refl), λ j d h. absurd (omega arith))))

@@ -43,13 +43,13 @@ abbrev μ-loop : tie.MeasureT-loop
 -- the record that a turn looks at, and the slice that it says
 module _ (k : tie.After-record-at Inv-loop2 μ-loop2 Inv-loop μ-loop) where
   abbrev start : tie.Start Inv-loop2 μ-loop2 Inv-loop μ-loop
-  start = k .before .before .before .before .before .before .before .before .before
+  start = k .before .before .before .before .before .before .before .before .before .before
 
   abbrev table : List ℕ
   table = start .args .permanent .now
 
   abbrev stride : ℕ
-  stride = k .before .before .before .before .before .before .before .stride-of .result
+  stride = k .before .before .before .before .before .before .before .before .stride-of .result
 
   abbrev place : ℕ
   place = k .before .before .loop .i
@@ -72,16 +72,16 @@ module _ (k : tie.After-record-at Inv-loop2 μ-loop2 Inv-loop μ-loop) where
   all = tallyFrom isOpening 0 Zero (slicesOf table)
 
   few : start .args .to ≤ 8
-  few = start .pre .1 .1 .1
+  few = start .pre .1 .1
 
   below : place < countOf table
   below = omega arith
 
   read : Read table place stride (k .record-at .result .now)
-  read = read-here table place (k .before .before .before .before .before .before .before .stride-of .ensures) (k .record-at .ensures .0) (start .pre .0) below
+  read = read-here table place (k .before .before .before .before .before .before .before .record-size .ensures) (k .record-at .ensures .0) (k .before .before .before .before .before .before .before .before .stride-of .ensures) (start .pre .0 .whole) below
 
   next : drop place (slicesOf table) ≡ here ∷ drop (place + 1) (slicesOf table)
-  next = slices-at table place below (start .pre .0)
+  next = slices-at table place below (start .pre .0 .whole)
 
   -- past the inner loop the properties are noted, and then the life times
   all-noted : (new b e : Mark) (ms₀ ms₁ : List Mark) (part : ℕ) → part ≤ start .args .to → start .args .to ≤ part → length ms₁ ≡ 10
@@ -99,7 +99,7 @@ told v = let k = v .before in v .is-due .ensures (strideOf (table k)) ∙ ap (λ
 loop-holds : tie.Need-loop-holds Inv-loop2 μ-loop2 Inv-loop μ-loop
 unfolding latestDue
 loop-holds c =
-    let a = c .before .before .before .before .before .before .args in
+    let a = c .before .before .before .before .before .before .before .args in
     let p = a .permanent .now in
     let s = c .before .since-of .result in
     let f = c .before .before .front-of in
@@ -119,7 +119,7 @@ loop2-holds : tie.Need-loop2-holds Inv-loop2 μ-loop2 Inv-loop μ-loop
 loop2-holds c =
     let k = c .before .before .before .before .before in
     let l = k .before .before .loop in
-    (omega arith, (start k .pre .1 .1 .0, (l .inv .1 .1 .0, noted-start nothing (start k .args .from) (step k (c .mark-of .result)) (l .latest .marks))))
+    (omega arith, (start k .pre .1 .0, (l .inv .1 .1 .0, noted-start nothing (start k .args .from) (step k (c .mark-of .result)) (l .latest .marks))))
 
 loop2-again : tie.Need-loop2-again Inv-loop2 μ-loop2 Inv-loop μ-loop
 loop2-again c =
@@ -186,7 +186,7 @@ loop-again c =
 returns : tie.Need-returns Inv-loop2 μ-loop2 Inv-loop μ-loop
 returns c =
     let l = c .before .loop in
-    let a = c .before .before .before .before .before .before .before .before .args in
+    let a = c .before .before .before .before .before .before .before .before .before .args in
     let p = a .permanent .now in
     let s = c .before .before .before .since-of .result in
     let b = c .before .before .before .before .front-of .result .bases in
@@ -212,11 +212,10 @@ survey-permanent-spec =
     Inv-loop
     μ-loop
     (λ c κs. search needs)
-    (λ c. search needs)
-    (λ c. search needs)
+    (λ c κs. search needs)
     (λ c κs. search needs)
     (λ c. search needs)
-    (λ c κs. let s = c .before .before .before in (s .pre .0, s .pre .1 .0))
+    (λ c κs. c .before .before .before .before .pre .0)
     (λ c κs. search needs)
     (λ c κs. search needs)
     loop-holds

@@ -1,5 +1,5 @@
 -- `state::writing::life_of_state` meets its contract: each life time of the record that tells it last. Assumes nothing.
-use Prim.Native.Nat.{ℕ, _+_, _*_}
+use Prim.Native.Nat.{ℕ}
 use mathlib.Core.Path.{_≡_, ap, ap₂, _∙_}
 use mathlib.Core.List.{List}
 use native.Mathlib.Omega.{arith}
@@ -15,23 +15,23 @@ use Rattle.state.proofs.writing.life_of_state.Statement.{statement}
 use Rattle.state.proofs.writing.life_of_state.Tie as tie
 
 abbrev table : tie.After-record-at → List ℕ
-table k = k .before .before .before .args .permanent .now
+table k = k .before .before .before .before .args .permanent .now
 
 abbrev anchor : tie.After-record-at → List ℕ
-anchor k = recordAt (recordSize (strideOf (table k))) (k .before .before .before .args .start .place) (table k)
+anchor k = recordAt (recordSize (strideOf (table k))) (k .before .before .before .before .args .start .place) (table k)
 
-read : (k : tie.After-record-at) → Read (table k) (k .before .before .before .args .start .place) (k .before .stride-of .result) (k .record-at .result .now)
+read : (k : tie.After-record-at) → Read (table k) (k .before .before .before .before .args .start .place) (k .before .before .stride-of .result) (k .record-at .result .now)
 read k =
-    let s = k .before .before .before in
-    read-here (table k) (s .args .start .place) (k .before .stride-of .ensures) (k .record-at .ensures .0) (s .pre .1 .0) (s .pre .1 .1)
+    let s = k .before .before .before .before in
+    read-here (table k) (s .args .start .place) (k .before .record-size .ensures) (k .record-at .ensures .0) (k .before .before .stride-of .ensures) (s .pre .1 .whole) (s .pre .1 .below)
 
 -- a life time as it was found, part by part
-told : (k : tie.After-record-at) (q : ℕ) (l : Life) (o : ℕ) → l ≡ lifeAt (32 + 8 * (k .before .stride-of .result)) (table k) o
-    → o ≡ originOf (k .before .before .before .args .start) (tells q (viewOf (k .before .stride-of .result) (k .record-at .result .now))) (getD (k .before .before .before .args .t3 .marks) q nothing)
-    → l ≡ lifeAt (recordSize (strideOf (table k))) (table k) (originOf (k .before .before .before .args .start) (tells q (viewOf (strideOf (table k)) (anchor k))) (getD (k .before .before .before .args .t3 .marks) q nothing))
+told : (k : tie.After-record-at) (q : ℕ) (l : Life) (o : ℕ) → l ≡ lifeAt (k .before .record-size .result) (table k) o
+    → o ≡ originOf (k .before .before .before .before .args .start) (tells q (viewOf (k .before .before .stride-of .result) (k .record-at .result .now))) (getD (k .before .before .before .before .args .t3 .marks) q nothing)
+    → l ≡ lifeAt (recordSize (strideOf (table k))) (table k) (originOf (k .before .before .before .before .args .start) (tells q (viewOf (strideOf (table k)) (anchor k))) (getD (k .before .before .before .before .args .t3 .marks) q nothing))
 told k q l o e f =
-    e ∙ (ap (λ (n : ℕ). lifeAt (32 + 8 * n) (table k) o) (k .before .stride-of .ensures)
-    ∙ ap (lifeAt (recordSize (strideOf (table k))) (table k)) (f ∙ ap (λ (v : Slice). originOf (k .before .before .before .args .start) (tells q v) (getD (k .before .before .before .args .t3 .marks) q nothing)) (read k .seen)))
+    e ∙ (ap (λ (n : ℕ). lifeAt n (table k) o) (k .before .record-size .ensures)
+    ∙ ap (lifeAt (recordSize (strideOf (table k))) (table k)) (f ∙ ap (λ (v : Slice). originOf (k .before .before .before .before .args .start) (tells q v) (getD (k .before .before .before .before .args .t3 .marks) q nothing)) (read k .seen)))
 
 returns : tie.Need-returns
 returns c =
@@ -43,8 +43,7 @@ life-of-state-spec =
     tie.close
     (tie.spec
     (λ c κs. search needs)
-    (λ c. search needs)
-    (λ c. search needs)
+    (λ c κs. search needs)
     (λ c κs. search needs)
     (λ c. search needs)
     (λ c. search needs)

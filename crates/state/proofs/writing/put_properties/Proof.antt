@@ -26,7 +26,7 @@ put-latest-requires c κs =
     let p = s .pre in
     let n = c .before .before .before .loop .n in
     let h = c .before .before .loop-test .taken in
-    (c .before .before .loop-test .taken, (p .1 .0, (p .1 .1 .0, (p .1 .1 .1 .0, (p .1 .1 .1 .1 .1 .1 .0 n h, p .1 .1 .1 .1 .1 .1 .1 n h)))))
+    (h, record { anchor = p .anchor; whole = p .whole; below = p .below n h; above = p .above n h })
 
 loop-again : tie.Need-loop-again Inv-loop μ-loop
 loop-again c =
@@ -36,11 +36,11 @@ loop-again c =
     let l = c .before .before .before .before .before .before .loop in
     let h = c .before .before .before .before .before .loop-test .taken in
     let f = propertyFrom (a .permanent .now) (a .temporary .now) (a .start) (a .t5 .marks) (a .t6) in
-    let long = from-length (a .permanent .now) (a .temporary .now) (p .1 .0) (p .1 .1 .0) (a .start) (a .t5 .marks) (a .t6) (p .1 .1 .1 .0) (p .1 .1 .1 .1 .1 .1 .0) (p .1 .1 .1 .1 .1 .1 .1) in
+    let long = from-length (a .permanent .now) (a .temporary .now) (p .anchor .whole) (p .whole) (a .start) (a .t5 .marks) (a .t6) (p .anchor .below) (p .below) (p .above) in
     let stride = strideOf (a .permanent .now) in
     let e = c .before .before .put-latest .ensures
     ∙ (ap (λ (d : List ℕ). pasted d (32 + l .n * stride) (propertyBy (a .permanent .now) (a .temporary .now) (a .start) (getD (a .t5 .marks) (l .n) nothing) (getD (a .t6) (l .n) 0) (l .n))) (l .inv .1 .1)
-    ∙ run-pasted (a .«record» .now) f stride (l .n) (run-length f stride (l .n) (λ i k. long i (omega arith))) (long (l .n) h) (omega (arith, p .0, piece-within stride (l .n) 8 h))) in
+    ∙ run-pasted (a .«record» .now) f stride (l .n) (run-length f stride (l .n) (λ i k. long i (omega arith))) (long (l .n) h) (omega (arith, p .sized, piece-within stride (l .n) 8 h))) in
     (omega arith, (ap length e ∙ pasted-length (a .«record» .now) (runOf f (l .n + 1)) 32, e))
 
 returns : tie.Need-returns Inv-loop μ-loop
@@ -55,7 +55,7 @@ put-properties-spec =
     (tie.spec
     Inv-loop
     μ-loop
-    (λ c. (omega arith, (refl, pasted-none _ 32 (omega (arith, c .before .before .before .pre .0)))))
+    (λ c. (omega arith, (refl, pasted-none _ 32 (omega (arith, c .before .before .before .pre .sized)))))
     (λ c. omega arith)
     (λ c. omega arith)
     (λ c. omega arith)

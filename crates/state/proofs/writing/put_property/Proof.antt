@@ -10,7 +10,7 @@ use Rattle.slice.specs.Record.{recordSize}
 use Rattle.table.specs.Header.{strideOf, recordAt}
 use Rattle.state.specs.Written.{nilUnknown}
 use Rattle.state.specs.Steps.{saidAt}
-use Rattle.state.proofs.Walks.{size-at}
+use Rattle.state.proofs.Walks.{size-at, read-by}
 use Rattle.state.proofs.Pasting.{said-cut}
 use borrow.Author.Needs.{needs}
 use Rattle.state.proofs.writing.put_property.Statement.{statement}
@@ -23,25 +23,32 @@ returns c =
     ∙ (ap (λ (s : ℕ). pasted (a .«record» .now) (32 + a .n * s) (nilUnknown s)) (c .before .before .before .before .before .stride-of .ensures)
     ∙ ap (λ (k : ℕ). pasted (a .«record» .now) (32 + a .n * strideOf (a .table .now)) (saidAt (a .table .now) (a .n) k)) (sym (c .before .before .before .before .if1 .taken)))
 
+-- the record that was read
+read : (c : tie.After-record-at) → let a = c .before .before .before .before .before .before .args in c .record-at .result .now ≡ recordAt (recordSize (strideOf (a .table .now))) (a .from - 1) (a .table .now)
+read c = let a = c .before .before .before .before .before .before .args in read-by (a .table .now) (a .from - 1) (c .before .record-size .ensures) (c .record-at .ensures .0)
+
 add-put : tie.Need-add-put
-add-put c = omega (arith, piece-within (c .before .before .before .stride-of .result) (c .before .before .before .before .before .before .args .n) 8 (c .before .before .before .before .before .before .pre .0))
+add-put c = omega (arith, piece-within (c .before .before .before .before .stride-of .result) (c .before .before .before .before .before .before .before .args .n) 8 (c .before .before .before .before .before .before .before .pre .0))
 
 part-put-end : tie.Need-part-put-end
 part-put-end c =
-    let a = c .before .before .before .before .before .before .args in
-    let e : length (c .before .record-at .result .now) ≡ recordSize (strideOf (a .table .now)) = ap length (c .before .record-at .ensures .0 ∙ ap (λ (s : ℕ). recordAt (32 + 8 * s) (a .from - 1) (a .table .now)) (c .before .before .before .stride-of .ensures)) ∙ size-at (a .table .now) (c .before .before .before .before .before .before .pre .1 .0) (a .from - 1) (omega arith) in
-    omega (arith, e, piece-within (c .before .before .before .stride-of .result) (a .n) 8 (c .before .before .before .before .before .before .pre .0))
+    let s = c .before .before .before .before .before .before .before in
+    let a = s .args in
+    let e : length (c .before .record-at .result .now) ≡ recordSize (strideOf (a .table .now)) = ap length (read (c .before)) ∙ size-at (a .table .now) (s .pre .1 .0) (a .from - 1) (omega arith) in
+    omega (arith, e, piece-within (c .before .before .before .before .stride-of .result) (a .n) 8 (s .pre .0))
 
 returns-2 : tie.Need-returns-2
 returns-2 c =
-    let a = c .before .before .before .before .before .before .before .before .before .before .args in
-    let s = c .before .before .before .before .before .before .before .stride-of .result in
+    let k = c .before .before .before .before .before in
+    let a = k .before .before .before .before .before .before .args in
+    let s = k .before .before .before .stride-of .result in
     let e : 32 + a .n * s + s - (32 + a .n * s) ≡ s = omega arith in
+    let r = recordAt (recordSize (strideOf (a .table .now))) (a .from - 1) (a .table .now) in
     c .before .before .put .ensures
-    ∙ (ap (λ (m : ℕ). pasted (a .«record» .now) (32 + a .n * s) (take m (drop (32 + a .n * s) (c .before .before .before .before .before .record-at .result .now)))) e
-    ∙ (ap (λ (r : List ℕ). pasted (a .«record» .now) (32 + a .n * s) (take s (drop (32 + a .n * s) r))) (c .before .before .before .before .before .record-at .ensures .0)
-    ∙ (ap (λ (s : ℕ). pasted (a .«record» .now) (32 + a .n * s) (take s (drop (32 + a .n * s) (recordAt (32 + 8 * s) (a .from - 1) (a .table .now))))) (c .before .before .before .before .before .before .before .stride-of .ensures)
-    ∙ ap (pasted (a .«record» .now) (32 + a .n * strideOf (a .table .now))) (said-cut (a .table .now) (a .n) (a .from) (c .before .before .before .before .before .before .if1 .left)))))
+    ∙ (ap (λ (m : ℕ). pasted (a .«record» .now) (32 + a .n * s) (take m (drop (32 + a .n * s) (k .record-at .result .now)))) e
+    ∙ (ap (λ (r : List ℕ). pasted (a .«record» .now) (32 + a .n * s) (take s (drop (32 + a .n * s) r))) (read k)
+    ∙ (ap (λ (s : ℕ). pasted (a .«record» .now) (32 + a .n * s) (take s (drop (32 + a .n * s) r))) (k .before .before .before .stride-of .ensures)
+    ∙ ap (pasted (a .«record» .now) (32 + a .n * strideOf (a .table .now))) (said-cut (a .table .now) (a .n) (a .from) (k .before .before .if1 .left)))))
 
 pub put-property-spec : {M : Type 1} → statement M
 put-property-spec =
@@ -53,8 +60,7 @@ put-property-spec =
     (λ c κs. search needs)
     (λ c. search needs)
     returns
-    (λ c. search needs)
-    (λ c. search needs)
+    (λ c κs. search needs)
     (λ c. search needs)
     (λ c κs. search needs)
     add-put

@@ -1,6 +1,6 @@
 -- `table::arrival::arrive` meets its contract: past the two checks, what is left is the filing of a record. Assumes nothing.
-use Prim.Native.Nat.{ℕ, _+_, _*_, _-_}
-use mathlib.Core.Path.{_≡_, refl, sym, _∙_, ap}
+use Prim.Native.Nat.{ℕ, _-_}
+use mathlib.Core.Path.{_≡_, refl, sym, _∙_}
 use mathlib.Core.List.{List}
 use native.Mathlib.Omega.{arith}
 use lib.ListN.{length, take, drop, length-drop}
@@ -48,10 +48,7 @@ checked c =
 sound2 : (c : tie.After-enum-told2) → let k = told (c .before .before) in SoundSlice (strideOf (T k)) (featureOf (T k)) (sideOf (T k)) (S k)
 sound2 c = sound-slice _ _ _ _ (sym (checked (c .before .before)) ∙ c .enum-told2 .given .1)
 
--- the size of a record, and that the slice brings one
-sized : (c : tie.After-check-slice) → 32 + 8 * c .before .before .before .before .before .stride-of .result ≡ recordSize (strideOf (T (told c)))
-sized c = ap recordSize (c .before .before .before .before .before .stride-of .ensures)
-
+-- it brings a record of the table's size
 record-size : (c : tie.After-enum-told2) → let k = told (c .before .before) in length (take (length (S k) - 16) (drop 16 (S k))) ≡ recordSize (strideOf (T k))
 record-size c =
     let k = told (c .before .before) in
@@ -71,18 +68,19 @@ returns-2 c =
 
 file-requires : tie.Need-file-requires
 file-requires c κs =
-    let e = c .before .before in
-    let k = told (e .before .before) in
-    let f = facts k in
-    let size = sized (e .before .before) in
-    (rw size (f .roomy), rw size (f .rising), rw size (record-size e))
+    let z = c .before .before in
+    let e = z .before .before in
+    let f = facts (told (e .before .before)) in
+    let size = z .record-size .ensures in
+    (record { roomy = rw size (f .roomy); rising = rw size (f .rising) }, rw size (record-size e))
 
 returns-3 : tie.Need-returns-3
 returns-3 c =
     let x = c .before .before in
-    let e = x .before .before .before in
+    let z = x .before .before .before in
+    let e = z .before .before in
     let k = told (e .before .before) in
-    let size = sized (e .before .before) in
+    let size = z .record-size .ensures in
     let whole = rest-whole 16 (S k) in (
       ap arrivalReply
           (x .file .ensures .0
@@ -110,10 +108,9 @@ arrive-spec =
     (λ c. search needs)
     returns-2
     (λ c. search needs)
-    (λ c. search needs)
-    (λ c. search needs)
-    (λ c. omega (arith, sound2 (c .before) .size))
-    (λ c. omega (arith, sound2 (c .before) .size))
+    (λ c κs. search needs)
+    (λ c. omega (arith, sound2 (c .before .before .before) .size))
+    (λ c. omega (arith, sound2 (c .before .before .before) .size))
     (λ c. search needs)
     file-requires
     (λ c. search needs)

@@ -44,7 +44,7 @@ correct-requires c κs =
     let t = c .before in
     let k = t .before in
     let h = inside (R k) (Rs k) (told k true (t .if1 .taken)) .0 in
-    (omega (arith, h, place k, records-length (start k .args .size) (T k)), start k .pre .0, start k .pre .2)
+    (omega (arith, h, place k, records-length (start k .args .size) (T k)), start k .pre .0 .roomy, start k .pre .1)
 
 returns : tie.Need-returns
 returns c =
@@ -61,7 +61,7 @@ returns-2 c =
     let e = c .before .before .before in
     let k = e .before in
     let full : length (Rs k) ≡ roomOf (start k .args .size) (T k) = omega (arith, records-length (start k .args .size) (T k), c .before .room-of .ensures, c .if2 .taken) in
-    (sym (filing-full _ _ _ (not-stored _ _ (start k .pre .1) (told k _ (e .if1 .left))) full), refl)
+    (sym (filing-full _ _ _ (not-stored _ _ (start k .pre .0 .rising) (told k _ (e .if1 .left))) full), refl)
 
 returns-3 : tie.Need-returns-3
 returns-3 c =
@@ -71,8 +71,8 @@ returns-3 c =
     let k = e .before in
     let new = told k _ (e .if1 .left) in
     let free : length (Rs k) ≡ roomOf (start k .args .size) (T k) → ⊥ = λ q. f .if2 .left (omega (arith, records-length (start k .args .size) (T k), f .before .room-of .ensures)) in (
-      sym (filing-new _ _ _ (not-stored _ _ (start k .pre .1) new) free),
-      x .insert .ensures ∙ ap (written (T k)) (ap (λ (i : ℕ). insertedAt i (R k) (Rs k)) (place k) ∙ sym (new-filed _ _ (start k .pre .1) new)),
+      sym (filing-new _ _ _ (not-stored _ _ (start k .pre .0 .rising) new) free),
+      x .insert .ensures ∙ ap (written (T k)) (ap (λ (i : ℕ). insertedAt i (R k) (Rs k)) (place k) ∙ sym (new-filed _ _ (start k .pre .0 .rising) new)),
     )
 
 pub file-spec : {M : Type 1} → statement M

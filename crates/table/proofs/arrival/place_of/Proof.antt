@@ -43,7 +43,7 @@ loop-again c =
     let k = c .before in
     let l = k .before .before .before .before in
     let a = start l .args in
-    let past = place-past (a .size) (a .table .now) (a .key) (roomy l) (middle l) (omega arith) (start l .pre .2) (told k _ (c .if1 .taken)) in
+    let past = place-past (a .size) (a .table .now) (a .key) (roomy l) (middle l) (omega arith) (start l .pre .1 .rising) (told k _ (c .if1 .taken)) in
     (omega (arith, past), omega arith, omega arith)
 
 loop-again-2 : tie.Need-loop-again-2 Inv-loop μ-loop

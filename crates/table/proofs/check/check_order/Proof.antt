@@ -1,5 +1,5 @@
 -- `table::check::check_order` meets its contract: past each test, what is left of the check. Assumes nothing.
-use Prim.Native.Nat.{ℕ, _+_, _*_, _≤_, _<_}
+use Prim.Native.Nat.{ℕ, _≤_, _<_}
 use mathlib.Core.Path.{_≡_, sym, _∙_, ap}
 use mathlib.Core.List.{List}
 use native.Mathlib.Omega.{arith}
@@ -19,8 +19,8 @@ abbrev Size : tie.After-room-of → ℕ
 Size c = recordSize (strideOf (T c))
 
 -- the size and the room that were worked out
-sized : (c : tie.After-room-of) → 32 + 8 * c .before .before .stride-of .result ≡ Size c
-sized c = ap recordSize (c .before .before .stride-of .ensures)
+sized : (c : tie.After-room-of) → c .before .before .record-size .result ≡ Size c
+sized c = c .before .before .record-size .ensures
 
 room : (c : tie.After-room-of) → c .room-of .result ≡ roomOf (Size c) (T c)
 room c = c .room-of .ensures ∙ ap (λ (k : ℕ). roomOf k (T c)) (sized c)
@@ -53,8 +53,6 @@ check-order-spec =
     tie.close
     (tie.spec
     (λ c κs. search needs)
-    (λ c. search needs)
-    (λ c. search needs)
     (λ c κs. search needs)
     (λ c. search needs)
     (λ c κs. search needs)

@@ -1,5 +1,5 @@
 -- `table::check::check_table` meets its contract: past each test, what is left of the check. Assumes nothing.
-use Prim.Native.Nat.{ℕ, _+_, _*_, _≤_, _<_}
+use Prim.Native.Nat.{ℕ, _≤_, _<_}
 use mathlib.Core.Path.{_≡_, sym, _∙_, ap}
 use mathlib.Core.List.{List}
 use mathlib.Core.Bool.{_&&_}
@@ -56,13 +56,13 @@ past4 c = past3 (c .before .before) ∙ rw (sym (c .before .blank8 .ensures) ∙
 
 -- the stride, the count and the room that were read
 abbrev s5 : tie.After-room-of → tie.Start
-s5 c = s4 (c .before .before .before)
+s5 c = s4 (c .before .before .before .before)
 
 abbrev Size : tie.After-room-of → ℕ
 Size c = recordSize (strideOf (T (s5 c)))
 
-sized : (c : tie.After-room-of) → 32 + 8 * c .before .before .stride-of .result ≡ Size c
-sized c = ap recordSize (c .before .before .stride-of .ensures)
+sized : (c : tie.After-room-of) → c .before .before .record-size .result ≡ Size c
+sized c = c .before .before .record-size .ensures
 
 room : (c : tie.After-room-of) → c .room-of .result ≡ roomOf (Size c) (T (s5 c))
 room c = c .room-of .ensures ∙ ap (λ (k : ℕ). roomOf k (T (s5 c))) (sized c)
@@ -77,15 +77,15 @@ over : (c : tie.Then5) → roomOf (Size (c .before)) (T (s5 (c .before))) < coun
 over c = omega (arith, room (c .before), count (c .before), c .if5 .taken)
 
 past5 : (c : tie.Else5) → Answer (s5 (c .before)) ≡ from6 (s5 (c .before) .args .sides) (T (s5 (c .before)))
-past5 c = past4 (c .before .before .before .before) ∙ rw (le-ltb _ _ (roomy c))
+past5 c = past4 (c .before .before .before .before .before) ∙ rw (le-ltb _ _ (roomy c))
 
 -- the search for a failing record, in the definition's own numbers
 search-is : (c : tie.After-first-failing) → let k = c .before .before in
     c .first-failing .result ≡ failing (strideOf (T (s5 k))) (sideOf (T (s5 k))) (recordsOf (Size k) (T (s5 k)))
 search-is c =
     let k = c .before .before in
-    let side = k .before .before .before .before .before .before .before .before .before .before .side-of .ensures in
-    c .first-failing .ensures ∙ (λ i. failing (k .before .before .stride-of .ensures i) (side i) (recordsOf (sized k i) (T (s5 k))))
+    let side = k .before .before .before .before .before .before .before .before .before .before .before .side-of .ensures in
+    c .first-failing .ensures ∙ (λ i. failing (k .before .before .before .stride-of .ensures i) (side i) (recordsOf (sized k i) (T (s5 k))))
 
 past6 : (c : tie.After-enum-told) → let k = c .before .before .before .before in Answer (s5 k) ≡ from7 (s5 k .args .sides) (T (s5 k))
 past6 c = let f = c .before .before in past5 (f .before) ∙ rw (failing-nowhere _ _ _ (sym (search-is f) ∙ c .enum-told .given .1))
@@ -110,7 +110,7 @@ returns-4 c = ap checkedReply (sym (past3 (c .before .before) ∙ rw (sym (c .be
 returns-5 : tie.Need-returns-5
 returns-5 c =
     let k = c .before in
-    ap checkedReply (sym (past4 (k .before .before .before) ∙ rw (lt-ltb _ _ (over c))))
+    ap checkedReply (sym (past4 (k .before .before .before .before) ∙ rw (lt-ltb _ _ (over c))))
 
 returns-6 : tie.Need-returns-6
 returns-6 c =
@@ -139,8 +139,7 @@ check-table-spec =
     (λ c κs. search needs)
     returns-4
     (λ c κs. search needs)
-    (λ c. search needs)
-    (λ c. search needs)
+    (λ c κs. search needs)
     (λ c κs. search needs)
     (λ c. search needs)
     (λ c κs. search needs)

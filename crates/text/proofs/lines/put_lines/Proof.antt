@@ -38,7 +38,7 @@ abbrev looped : tie.After-record-at Inv-loop μ-loop → tie.At-loop Inv-loop μ
 looped r = r .before .before .before
 
 abbrev first : tie.After-record-at Inv-loop μ-loop → tie.After-stride-of Inv-loop μ-loop
-first r = looped r .before .before
+first r = looped r .before .before .before
 
 more : (r : tie.After-record-at Inv-loop μ-loop) → looped r .loop .i < countOf (table (first r))
 more r = omega (arith, looped r .before .count-of .ensures, r .before .before .loop-test .taken)
@@ -49,7 +49,7 @@ room r = let w = looped r .loop .inv in omega (arith, more r, w .1, w .2 .next, 
 read : (r : tie.After-record-at Inv-loop μ-loop) → r .record-at .result .now ≡ getD (records (table (first r))) (looped r .loop .i) []
 read r =
     let t = table (first r) in
-    read-by t (looped r .loop .i) (first r .stride-of .ensures) (r .record-at .ensures .0)
+    read-by t (looped r .loop .i) (looped r .before .before .record-size .ensures) (r .record-at .ensures .0)
     ∙ record-is (recordSize (strideOf t)) t (looped r .loop .i) (more r) (start (first r) .pre .0)
 
 loop-again : tie.Need-loop-again Inv-loop μ-loop
@@ -67,7 +67,7 @@ returns : tie.Need-returns Inv-loop μ-loop
 returns c =
     let l = c .before in
     let k = l .before in
-    let t = table (k .before) in
+    let t = table (k .before .before) in
     let e : l .loop .i ≡ countOf t = omega (arith, k .count-of .ensures) in
     let all = take-all (countOf t) (records t) (omega (arith, records-length (recordSize (strideOf t)) t)) in
     rw (e, all) at (l .loop .inv .2)
@@ -79,11 +79,10 @@ put-lines-spec =
     Inv-loop
     μ-loop
     (λ c κs. search needs)
-    (λ c. search needs)
-    (λ c. search needs)
+    (λ c κs. search needs)
     (λ c κs. search needs)
     (λ c. search needs)
-    (λ c. (omega arith, refl, wrote-none _ _ (omega (arith, start (c .before) .pre .1))))
+    (λ c. (omega arith, refl, wrote-none _ _ (omega (arith, start (c .before .before) .pre .1))))
     (λ c κs. search needs)
     (λ r κs. (room r, (omega (arith, first r .stride-of .ensures), omega (arith, first r .stride-of .ensures))))
     (λ c. search needs)
