@@ -1,9 +1,9 @@
--- The last slice that passes a test, as one finds it from the end: how many slices were looked at, and what a pass from the front finds.
--- Assumes nothing.
+-- The last slice that passes a test, as it is found from the end: how many slices were looked at, and that a pass from the front
+-- finds the same one. Assumes nothing.
 use Prim.Native.Nat.{ℕ, zero, suc, _+_, _≤_, _<_}
 use mathlib.Core.Path.{_≡_, refl, sym, ap, _∙_, fun-ext}
 use mathlib.Core.List.{List, [], _∷_, reverseAux}
-use mathlib.Core.Bool.{Bool, true, false, cond, _&&_, or-true}
+use mathlib.Core.Bool.{Bool, true, false, _&&_, or-true}
 use mathlib.Core.Logic.{⊎-elim}
 use mathlib.Core.Option.{Option, none, some}
 use native.Mathlib.Omega.{arith}
@@ -59,10 +59,14 @@ module _ (test : Slice → Bool) where
     any-here (suc j) (x ∷ l) e = rw (any-here j l e) (or-true (test x))
 
     -- a pass from the front that takes each that comes finds it last
-    latest-here : (v : Option Placed) (i j : ℕ) (l : List Slice) → drop j l ≡ d ∷ ds → latestFrom (λ a b. true) test v i l ≡ some (at (i + j) d)
+    latest-here : (v : Option Placed) (i j : ℕ) (l : List Slice) → drop j l ≡ d ∷ ds
+        → latestFrom (λ a b. true) test v i l ≡ some (at (i + j) d)
     latest-here v i zero l e =
         let k : i ≡ i + 0 = omega arith in
-        ap (latestFrom (λ a b. true) test v i) e ∙ ap (λ w. latestFrom (λ a b. true) test w (suc i) ds) (taken v) ∙ latest-none ds (some (at i d)) (suc i) q ∙ ap (λ i. some (at i d)) k
+        ap (latestFrom (λ a b. true) test v i) e
+        ∙ ap (λ w. latestFrom (λ a b. true) test w (suc i) ds) (taken v)
+        ∙ latest-none ds (some (at i d)) (suc i) q
+        ∙ ap (λ i. some (at i d)) k
       where
         taken : (v : Option Placed) → latestWith (λ a b. true) test v i d ≡ some (at i d)
         taken none = rw y
@@ -77,8 +81,10 @@ module _ (test : Slice → Bool) where
   last-there [] h = contrary h refl
   last-there (x ∷ l) h =
       by-test (any test l)
-      (λ y. let (j, s) = last-there l y in (suc j, record { here = s .here; behind = s .behind; there = s .there; passes = s .passes; quiet = s .quiet }))
-      (λ n. (0, record { here = x; behind = l; there = refl; passes = ⊎-elim (λ y. y) (λ y. contrary y n) (or-either (test x) (any test l) h); quiet = n }))
+      (λ y. let (j, s) = last-there l y in
+      (suc j, record { here = s .here; behind = s .behind; there = s .there; passes = s .passes; quiet = s .quiet }))
+      (λ n. let y = ⊎-elim (λ y. y) (λ y. contrary y n) (or-either (test x) (any test l) h) in
+      (0, record { here = x; behind = l; there = refl; passes = y; quiet = n }))
 
   module _ (l : List Slice) where
     module _ (j : ℕ) (s : LastAt l j) where
@@ -97,7 +103,8 @@ module _ (test : Slice → Bool) where
 
     pub looked-most : looked test l ≤ length l
     looked-most =
-        by-test (any test l) (λ y. let (j, s) = last-there l y in omega (arith, last-looked j s)) (λ n. omega (arith, none-looked n))
+        by-test (any test l) (λ y. let (j, s) = last-there l y in omega (arith, last-looked j s))
+        (λ n. omega (arith, none-looked n))
 
 -- ---- the slice that touches a property last, by a pass from the front
 module _ (t : Instant) (n : ℕ) (h : n < 8) (l : List Slice) where
@@ -110,15 +117,17 @@ module _ (t : Instant) (n : ℕ) (h : n < 8) (l : List Slice) where
   unfolding latestValid
   untouched-latest q = ap (λ f. latestFrom (λ a b. true) f none 0 l) (sym touches-tells) ∙ latest-none (touches t n) l none 0 q
 
-  -- one does, with as many behind it as were looked at before it
-  pub touched-latest : any (touches t n) l ≡ true → (b : Placed) × (latestValid n t l ≡ some b) × (looked (touches t n) l + b .place ≡ length l)
+  -- one does, at the place at which a walk from the end stops
+  pub touched-latest : any (touches t n) l ≡ true
+      → (b : Placed) × (latestValid n t l ≡ some b) × (looked (touches t n) l + b .place ≡ length l)
   unfolding latestValid
   touched-latest y =
       let (j, s) = last-there (touches t n) l y in
       let k : 0 + j ≡ j = omega arith in (
         at j (s .here),
         ap (λ f. latestFrom (λ a b. true) f none 0 l) (sym touches-tells)
-            ∙ latest-here (touches t n) (s .here) (s .behind) (s .passes) (s .quiet) none 0 j l (s .there) ∙ ap (λ i. some (at i (s .here))) k,
+            ∙ latest-here (touches t n) (s .here) (s .behind) (s .passes) (s .quiet) none 0 j l (s .there)
+            ∙ ap (λ i. some (at i (s .here))) k,
         last-looked (touches t n) l j s,
       )
 
