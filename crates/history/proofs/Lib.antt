@@ -5,6 +5,8 @@ pub mod ReadBack
 pub mod Again
 -- the answer at an instant depends only on the slices that reach it
 pub mod Reach
+-- what touches a property, by the slices in reach; and how many slices are looked at from the end
+pub mod Touched
 -- one pass over the slices finds the last mention of each part
 pub mod Latest
 -- each part of a state is what the last slice that tells it says

@@ -7,6 +7,8 @@ pub mod Reach
 pub mod Agrees
 -- the snapshot and the property question are refused alike, but for the buffer
 pub mod Refused
+-- what touches a property agrees with the property question, and changes only within reach
+pub mod Touches
 -- what the property question returns goes by the slices alone: the table, and the bytes of the last mention
 pub mod Handed
 -- what a question returns is told apart by its numbers
