@@ -7,6 +7,7 @@ pub mod Kept
 pub mod Changes
 pub mod Periods
 pub mod Reach
+pub mod Touched
 pub mod Steady
 pub mod ReadBack
 pub mod Again

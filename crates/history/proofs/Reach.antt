@@ -45,7 +45,7 @@ follows-reaches t a d h =
     let (c, w) = and-both (counts permdelta d) (atMost (d .period .begin) t && after a d) h in
     due-reaches t d c (and-both (atMost (d .period .begin) t) (after a d) w .0)
 
-valid-reaches : (t : Instant) (d : Slice) → valid t d ≡ true → reaches t d ≡ true
+pub valid-reaches : (t : Instant) (d : Slice) → valid t d ≡ true → reaches t d ≡ true
 unfolding valid reaches
 valid-reaches t d h =
     rw (h, or-true (counts permdelta d && atMost (d .period .begin) t)) (or-true (counts baseline d && baselineReach t d))

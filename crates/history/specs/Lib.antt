@@ -6,6 +6,7 @@ pub mod Permanent
 pub mod Snapshot
 pub mod Source
 pub mod Reach
+pub mod Touched
 pub mod Parts
 pub mod Changes
 pub mod Derived

@@ -15,6 +15,7 @@ pub mod Handed
 pub mod Reach
 pub mod Replies
 pub mod Stages
+pub mod Touches
 pub mod Agrees
 pub mod Refused
 pub mod OneAnswer

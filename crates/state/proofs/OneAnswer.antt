@@ -4,7 +4,7 @@ use mathlib.Core.Path.{refl}
 use Rattle.laws.specs.OneAnswer.{OneAnswer}
 use Rattle.laws.specs.OneAnswer.{OneAnswerAs, shown}
 use Rattle.laws.proofs.OneAnswer.{same, both}
-use Rattle.state.proofs.Replies.{outcome-told, place-told, source-told}
+use Rattle.state.proofs.Replies.{outcome-told, place-told, source-told, touched-told}
 use Rattle.state.proofs.answer.permanent_state.Kinds as permanent-state-k
 use Rattle.state.proofs.answer.state_at.Kinds as state-at-k
 use Rattle.state.proofs.answer.permanent_state.Reads as permanent-state
@@ -17,6 +17,8 @@ use Rattle.state.proofs.question.source_of.Kinds as source-of-k
 use Rattle.state.proofs.question.source_of.Reads as source-of
 use Rattle.state.proofs.question.property.Kinds as property-k
 use Rattle.state.proofs.question.property.Reads as property
+use Rattle.state.proofs.touching.touched.Kinds as touched-k
+use Rattle.state.proofs.touching.touched.Reads as touched
 
 pub permanent-state-one : OneAnswer permanent-state-k.ps permanent-state-k.r permanent-state.Asked permanent-state.Learnt
 permanent-state-one κs a = (
@@ -50,3 +52,6 @@ source-of-one κs a = (tt, λ z z' ws ws' p q. (source-told z z' (same p q), ref
 
 pub property-one : OneAnswerAs property-k.ps property-k.r (λ κs. shown) property.Asked property.Learnt
 property-one κs a = (tt, λ z z' ws ws' p q. (same p q, refl))
+
+pub touched-one : OneAnswer touched-k.ps touched-k.r touched.Asked touched.Learnt
+touched-one κs a = (tt, λ z z' ws ws' p q. (touched-told z z' (same p q), refl))

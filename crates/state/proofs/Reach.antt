@@ -4,13 +4,15 @@
 use Prim.Native.Nat.{ℕ}
 use mathlib.Core.Path.{_≡_, refl, sym, ap, _∙_}
 use mathlib.Core.List.{List, [], _∷_, _++_, map}
-use mathlib.Core.Bool.{true, false, not}
+use mathlib.Core.Bool.{true, false, cond, not}
 use mathlib.Core.Logic.{_⊎_, inl, inr, ⊎-elim}
 use mathlib.Core.Option.{Option, none, some, Option·none-ne-some, Option·some-injective, map-eq-some-iff}
-use Rattle.laws.specs.Lists.{kept}
+use Rattle.laws.specs.Lists.{any, kept}
 use Rattle.laws.specs.Keyed.{stored}
 use Rattle.laws.specs.Refusals.{test, refuse}
+use Rattle.laws.specs.Replies.{refusedWith, acceptedAs}
 use Rattle.laws.proofs.Tests.{by-test}
+use Rattle.laws.proofs.Refusals.{refuse-map}
 use Rattle.octets.specs.Bytes.{sameBytes}
 use Rattle.numbers.specs.declared.Instant.{Instant}
 use Rattle.slice.specs.Record.{recordSize, keyOf, keyLess, sameKey, Slice, viewOf}
@@ -26,8 +28,11 @@ use Rattle.history.specs.Permanent.{permanentAt}
 use Rattle.history.specs.Snapshot.{passing, snapshotAt}
 use Rattle.history.specs.Source.{line, lastMention}
 use Rattle.history.specs.Reach.{reaches}
+use Rattle.history.specs.Touched.{touches}
 use Rattle.history.proofs.Reach.{line-reach, passing-reach, permanent-reach, snapshot-reach, put-reach}
+use Rattle.history.proofs.Touched.{touched-near}
 use Rattle.state.specs.Asking.{slicesOf, permanentTests, bothTests, misfits, writingTests, askingTests, refusedOutcome, outcomeOf, permanentStateOf, snapshotOf, buffered}
+use Rattle.state.specs.Touched.{refusedTouched, touchedBy, touchedOf, uncounted, SameTouched}
 use Rattle.state.specs.Reach.{Reached, SameState, SameSnapshot, SameProperty}
 use Rattle.state.specs.declared.question.Source.the-variants as source
 use Rattle.state.proofs.Slices.{view-key, view-put, view-stored}
@@ -130,6 +135,25 @@ module _ (at : Instant) (p p' : List ℕ) (a : AsBefore Permanent at p p') where
         under : lastMention n (line at (slicesOf p')) ≡ lastMention n (line at (slicesOf p))
         under = ap (lastMention n) (line-reach at (slicesOf p') (slicesOf p) (a .near))
 
+-- whether anything temporary touches property n, the count apart
+module _ (at : Instant) (t t' : List ℕ) (b : AsBefore Temporary at t t') (n : ℕ) where
+  answer-by : (u : List ℕ) → uncounted (touchedOf u at n)
+      ≡ refuse refusedWith (tableTests (strideOf u) Temporary u ++ askingTests at n)
+      (cond (any (touches at n) (kept (reaches at) (slicesOf u))) (acceptedAs 1 0) (acceptedAs 2 0))
+  unfolding touchedOf touchedBy
+  answer-by u =
+      let asked = tableTests (strideOf u) Temporary u ++ askingTests at n in
+      refuse-map uncounted refusedTouched refusedWith (λ k. refl) asked _
+      ∙ ap (refuse refusedWith asked)
+      (by-test (any (touches at n) (slicesOf u)) (λ y. rw (touched-near at n (slicesOf u), y)) (λ q. rw (touched-near at n (slicesOf u), q)))
+
+  same-touched : SameTouched at t t' n
+  same-touched =
+      answer-by t'
+      ∙ (λ i. refuse refusedWith (b .tests i ++ askingTests at n)
+      (cond (any (touches at n) (b .near i)) (acceptedAs 1 0) (acceptedAs 2 0)))
+      ∙ sym (answer-by t)
+
 -- ---- OUTSIDE REACH nothing changes, and so what changes lies in reach
 within : (at : Instant) (t s : List ℕ) {A : Type 0} → (Outside at t s → A) → (A → ⊥) → Reached at t s
 within at t s same differs = ⊎-elim (λ r. r) (λ out. absurd (differs (same out))) (reached-or at t s)
@@ -155,3 +179,6 @@ module _ (at : Instant) (p t s : List ℕ) where
 
   pub temporary-property : (n : ℕ) → (SameProperty at p p t (arrivedAt t s) n → ⊥) → Reached at t s
   temporary-property n = within at t s (λ out. same-property at p p (as-itself Permanent at p) t (arrivedAt t s) (as-arrived Temporary at t s out) n)
+
+pub touched-changed : (at : Instant) (t s : List ℕ) (n : ℕ) → (SameTouched at t (arrivedAt t s) n → ⊥) → Reached at t s
+touched-changed at t s n = within at t s (λ out. same-touched at t (arrivedAt t s) (as-arrived Temporary at t s out) n)

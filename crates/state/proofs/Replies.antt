@@ -5,12 +5,15 @@ use Rattle.laws.specs.Replies.{Reply}
 use Rattle.laws.proofs.Replies.{lossless}
 use Rattle.slice.proofs.Replies.{readBack}
 use Rattle.state.specs.Asking.{outcomeReply, placeReply, sourceReply}
+use Rattle.state.specs.Touched.{touchedReply}
 use Rattle.state.specs.declared.answer.Outcome.{Outcome}
 use Rattle.state.specs.declared.answer.Outcome.the-variants as outcome
 use Rattle.state.specs.declared.question.Place.{Place}
 use Rattle.state.specs.declared.question.Place.the-variants as place
 use Rattle.state.specs.declared.question.Source.{Source}
 use Rattle.state.specs.declared.question.Source.the-variants as source
+use Rattle.state.specs.declared.looking.Touched.{Touched}
+use Rattle.state.specs.declared.looking.Touched.the-variants as touched
 
 -- ---- a state or a snapshot
 abbrev outcomeBack : Reply → Outcome
@@ -66,3 +69,22 @@ source-back (source.Refused f) = refl
 -- sources whose numbers are the same are the same
 pub source-told : (a b : Source) → sourceReply a ≡ sourceReply b → a ≡ b
 source-told = lossless sourceReply sourceBack source-back
+
+-- ---- whether anything temporary touches a property
+abbrev acceptedTouched : ℕ → ℕ → Touched
+acceptedTouched zero v = touched.No v
+acceptedTouched (suc zero) v = touched.Yes v
+acceptedTouched (suc (suc k)) v = touched.No v
+
+abbrev touchedBack : Reply → Touched
+touchedBack = readBack touched.Refused acceptedTouched
+
+touched-back : (a : Touched) → touchedBack (touchedReply a) ≡ a
+unfolding touchedReply
+touched-back (touched.Yes v) = refl
+touched-back (touched.No v) = refl
+touched-back (touched.Refused f) = refl
+
+-- answers whose numbers are the same are the same
+pub touched-told : (a b : Touched) → touchedReply a ≡ touchedReply b → a ≡ b
+touched-told = lossless touchedReply touchedBack touched-back

@@ -1,4 +1,5 @@
 pub mod Written
 pub mod Asking
+pub mod Touched
 pub mod Reach
 pub mod Steps

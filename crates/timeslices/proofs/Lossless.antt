@@ -1,106 +1,128 @@
--- The numbers of an answer lose nothing: answers of equal numbers are equal. Assumes nothing.
+-- What crosses to C loses nothing: replies of equal numbers are equal, and so are the answers that they are of. Assumes nothing.
 use Prim.Native.Nat.{ℕ, zero, suc}
 use mathlib.Core.Path.{_≡_, refl, sym, ap, _∙_}
 use mathlib.Core.List.{List}
-use Rattle.table.specs.Arriving.{creationRefused, refusedArrival}
+use Rattle.laws.specs.Replies.{Reply, refusedWith, acceptedAs}
+use Rattle.timeslices.specs.Answers.{numbersOf, partOf}
+use Rattle.timeslices.specs.declared.Answer.{Answer}
+use Rattle.timeslices.specs.declared.Part.{Part}
+use Rattle.table.specs.Arriving.{creationReply, arrivalReply}
 use Rattle.table.specs.declared.create.Creation.{Creation}
 use Rattle.table.specs.declared.create.Creation.the-variants as creation
 use Rattle.table.specs.declared.arrival.Arrival.{Arrival}
 use Rattle.table.specs.declared.arrival.Arrival.the-variants as arrival
-use Rattle.state.specs.Asking.{refusedOutcome, refusedPlace}
+use Rattle.table.proofs.Replies.{creation-told, arrival-told}
+use Rattle.state.specs.Asking.{outcomeReply, placeReply}
 use Rattle.state.specs.declared.answer.Outcome.{Outcome}
 use Rattle.state.specs.declared.answer.Outcome.the-variants as outcome
 use Rattle.state.specs.declared.question.Place.{Place}
 use Rattle.state.specs.declared.question.Place.the-variants as place
-use Rattle.baselines.specs.Deriving.{refusedDerivation}
+use Rattle.state.proofs.Replies.{outcome-told, place-told}
+use Rattle.baselines.specs.Deriving.{derivationReply}
 use Rattle.baselines.specs.declared.derivation.Derivation.{Derivation}
 use Rattle.baselines.specs.declared.derivation.Derivation.the-variants as derivation
-use Rattle.timeslices.specs.Answers.{creationNumbers, arrivalNumbers, outcomeNumbers, placeNumbers, derivationNumbers, listingNumbers}
+use Rattle.baselines.proofs.Replies.{derivation-told}
+use Rattle.text.specs.Listing.{listingReply}
 use Rattle.text.specs.declared.listing.Listing.{Listing}
 use Rattle.text.specs.declared.listing.Listing.the-variants as listing
-use Rattle.timeslices.specs.declared.Answer.{Answer}
-use Rattle.timeslices.specs.declared.Part.{Part}
+use Rattle.text.proofs.Replies.{listing-told}
+
+-- accepted answers are counted from 1
+abbrev pub Counted : Reply → Type 0
+Counted (refusedWith n) = Unit {0}
+Counted (acceptedAs zero v) = ⊥
+Counted (acceptedAs (suc k) v) = Unit {0}
+
+-- a reply by its kind, the number of its refusal and its value
+abbrev replyBy : ℕ → ℕ → ℕ → Reply
+replyBy zero n v = refusedWith n
+replyBy (suc k) n v = acceptedAs (suc k) v
+
+abbrev ofAnswer : Answer → Reply
+ofAnswer a = replyBy (a .kind) (a .number) (a .number)
+
+abbrev ofPart : Part → Reply
+ofPart x = replyBy (x .kind) (x .number) (x .at)
+
+answer-back : (r : Reply) → Counted r → ofAnswer (numbersOf r) ≡ r
+answer-back (refusedWith n) h = refl
+answer-back (acceptedAs zero v) h = absurd h
+answer-back (acceptedAs (suc k) v) h = refl
+
+part-back : (p t : List ℕ) (r : Reply) → Counted r → ofPart (partOf p t r) ≡ r
+part-back p t (refusedWith n) h = refl
+part-back p t (acceptedAs zero v) h = absurd h
+part-back p t (acceptedAs (suc k) v) h = refl
+
+-- replies whose two numbers are equal are equal
+pub numbers-told : (a b : Reply) → Counted a → Counted b → numbersOf a ≡ numbersOf b → a ≡ b
+numbers-told a b h k e = sym (answer-back a h) ∙ ap ofAnswer e ∙ answer-back b k
+
+-- and those of equal parts, whatever the tables, and without the size
+pub part-told : (p t : List ℕ) (a b : Reply) → Counted a → Counted b → partOf p t a ≡ partOf p t b → a ≡ b
+part-told p t a b h k e = sym (part-back p t a h) ∙ ap ofPart e ∙ part-back p t b k
 
 -- ---- a new table
-abbrev creationBy : ℕ → ℕ → Creation
-creationBy zero n = creationRefused n
-creationBy (suc k) n = creation.Made
+creation-counted : (a : Creation) → Counted (creationReply a)
+unfolding creationReply
+creation-counted creation.Made = tt
+creation-counted (creation.Refused f) = tt
 
-creation-back : (c : Creation) → creationBy (creationNumbers c .kind) (creationNumbers c .number) ≡ c
-creation-back (creation.Refused f) = refl
-creation-back creation.Made = refl
-
-pub creation-told : (c d : Creation) → creationNumbers c ≡ creationNumbers d → c ≡ d
-creation-told c d e = sym (creation-back c) ∙ ap (λ (a : Answer). creationBy (a .kind) (a .number)) e ∙ creation-back d
+-- new tables whose numbers in C are equal are the same answer
+pub creation-crosses : (a b : Creation) → numbersOf (creationReply a) ≡ numbersOf (creationReply b) → a ≡ b
+creation-crosses a b e = creation-told a b (numbers-told _ _ (creation-counted a) (creation-counted b) e)
 
 -- ---- an arrival
-abbrev arrivalBy : ℕ → ℕ → Arrival
-arrivalBy zero n = refusedArrival n
-arrivalBy (suc zero) n = arrival.Added
-arrivalBy (suc (suc zero)) n = arrival.Replaced
-arrivalBy (suc (suc (suc zero))) n = arrival.Superseded
-arrivalBy (suc (suc (suc (suc k)))) n = arrival.Repeat
+arrival-counted : (a : Arrival) → Counted (arrivalReply a)
+unfolding arrivalReply
+arrival-counted arrival.Added = tt
+arrival-counted arrival.Replaced = tt
+arrival-counted arrival.Superseded = tt
+arrival-counted arrival.Repeat = tt
+arrival-counted (arrival.Refused f) = tt
 
-arrival-back : (a : Arrival) → arrivalBy (arrivalNumbers a .kind) (arrivalNumbers a .number) ≡ a
-arrival-back (arrival.Refused f) = refl
-arrival-back arrival.Added = refl
-arrival-back arrival.Replaced = refl
-arrival-back arrival.Superseded = refl
-arrival-back arrival.Repeat = refl
-
-pub arrival-told : (a b : Arrival) → arrivalNumbers a ≡ arrivalNumbers b → a ≡ b
-arrival-told a b e = sym (arrival-back a) ∙ ap (λ (x : Answer). arrivalBy (x .kind) (x .number)) e ∙ arrival-back b
+-- and arrivals
+pub arrival-crosses : (a b : Arrival) → numbersOf (arrivalReply a) ≡ numbersOf (arrivalReply b) → a ≡ b
+arrival-crosses a b e = arrival-told a b (numbers-told _ _ (arrival-counted a) (arrival-counted b) e)
 
 -- ---- a state or a snapshot
-abbrev outcomeBy : ℕ → ℕ → Outcome
-outcomeBy zero n = refusedOutcome n
-outcomeBy (suc k) n = outcome.Written
+outcome-counted : (a : Outcome) → Counted (outcomeReply a)
+unfolding outcomeReply
+outcome-counted outcome.Written = tt
+outcome-counted (outcome.Refused f) = tt
 
-outcome-back : (o : Outcome) → outcomeBy (outcomeNumbers o .kind) (outcomeNumbers o .number) ≡ o
-outcome-back (outcome.Refused f) = refl
-outcome-back outcome.Written = refl
-
-pub outcome-told : (a b : Outcome) → outcomeNumbers a ≡ outcomeNumbers b → a ≡ b
-outcome-told a b e = sym (outcome-back a) ∙ ap (λ (x : Answer). outcomeBy (x .kind) (x .number)) e ∙ outcome-back b
-
--- ---- a property's place
-abbrev placeBy : ℕ → ℕ → ℕ → Place
-placeBy zero n at = refusedPlace n
-placeBy (suc zero) n at = place.Permanent at
-placeBy (suc (suc zero)) n at = place.Temporary at
-placeBy (suc (suc (suc k))) n at = place.Unmentioned
-
-place-back : (p t : List ℕ) (a : Place) → placeBy (placeNumbers p t a .kind) (placeNumbers p t a .number) (placeNumbers p t a .at) ≡ a
-place-back p t (place.Refused f) = refl
-place-back p t (place.Permanent n) = refl
-place-back p t (place.Temporary n) = refl
-place-back p t place.Unmentioned = refl
-
--- by the kind, the number and where it begins: whatever the tables, and without the size
-pub place-told : (p t : List ℕ) (a b : Place) → placeNumbers p t a ≡ placeNumbers p t b → a ≡ b
-place-told p t a b e = sym (place-back p t a) ∙ ap (λ (x : Part). placeBy (x .kind) (x .number) (x .at)) e ∙ place-back p t b
+-- and outcomes
+pub outcome-crosses : (a b : Outcome) → numbersOf (outcomeReply a) ≡ numbersOf (outcomeReply b) → a ≡ b
+outcome-crosses a b e = outcome-told a b (numbers-told _ _ (outcome-counted a) (outcome-counted b) e)
 
 -- ---- a derivation
-abbrev derivationBy : ℕ → ℕ → Derivation
-derivationBy zero n = refusedDerivation n
-derivationBy (suc k) n = derivation.Derived n
+derivation-counted : (a : Derivation) → Counted (derivationReply a)
+unfolding derivationReply
+derivation-counted (derivation.Derived n) = tt
+derivation-counted (derivation.Refused f) = tt
 
-derivation-back : (d : Derivation) → derivationBy (derivationNumbers d .kind) (derivationNumbers d .number) ≡ d
-derivation-back (derivation.Refused f) = refl
-derivation-back (derivation.Derived n) = refl
-
-pub derivation-told : (a b : Derivation) → derivationNumbers a ≡ derivationNumbers b → a ≡ b
-derivation-told a b e = sym (derivation-back a) ∙ ap (λ (x : Answer). derivationBy (x .kind) (x .number)) e ∙ derivation-back b
+-- and derivations
+pub derivation-crosses : (a b : Derivation) → numbersOf (derivationReply a) ≡ numbersOf (derivationReply b) → a ≡ b
+derivation-crosses a b e = derivation-told a b (numbers-told _ _ (derivation-counted a) (derivation-counted b) e)
 
 -- ---- a listing
-abbrev listingBy : ℕ → ℕ → Listing
-listingBy zero n = listing.Text n
-listingBy (suc zero) n = listing.Text n
-listingBy (suc (suc k)) n = listing.Needs n
+listing-counted : (a : Listing) → Counted (listingReply a)
+unfolding listingReply
+listing-counted (listing.Text n) = tt
+listing-counted (listing.Needs n) = tt
 
-listing-back : (l : Listing) → listingBy (listingNumbers l .kind) (listingNumbers l .number) ≡ l
-listing-back (listing.Text n) = refl
-listing-back (listing.Needs n) = refl
+-- and listings
+pub listing-crosses : (a b : Listing) → numbersOf (listingReply a) ≡ numbersOf (listingReply b) → a ≡ b
+listing-crosses a b e = listing-told a b (numbers-told _ _ (listing-counted a) (listing-counted b) e)
 
-pub listing-told : (a b : Listing) → listingNumbers a ≡ listingNumbers b → a ≡ b
-listing-told a b e = sym (listing-back a) ∙ ap (λ (x : Answer). listingBy (x .kind) (x .number)) e ∙ listing-back b
+-- ---- a property's place
+place-counted : (a : Place) → Counted (placeReply a)
+unfolding placeReply
+place-counted (place.Permanent n) = tt
+place-counted (place.Temporary n) = tt
+place-counted place.Unmentioned = tt
+place-counted (place.Refused f) = tt
+
+-- places whose parts in C are equal are the same answer, whatever the tables
+pub place-crosses : (p t : List ℕ) (a b : Place) → partOf p t (placeReply a) ≡ partOf p t (placeReply b) → a ≡ b
+place-crosses p t a b e = place-told a b (part-told p t _ _ (place-counted a) (place-counted b) e)

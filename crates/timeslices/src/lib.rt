@@ -1,11 +1,12 @@
 // The interface for C: each answer of the library as numbers. Nothing is asked of the caller beyond
 // memory that is there. include/timeslices.h says the same in C.
 ghost use mathlib.Core.Path.{_≡_};
-ghost use Rattle.table.specs.Arriving.{creationOf, created, arrivalOf, arrivedAt};
-ghost use Rattle.state.specs.Asking.{permanentStateOf, snapshotOf, afterState, afterSnapshot, placeOf};
-ghost use Rattle.baselines.specs.Deriving.{derivationOf, afterDeriving};
-ghost use Rattle.timeslices.specs.Answers.{instantOf, creationNumbers, arrivalNumbers, outcomeNumbers, partAt, placeNumbers, derivationNumbers, listingNumbers};
-ghost use Rattle.text.specs.Listing.{listingOf, putOf, afterPut};
+ghost use Rattle.table.specs.Header.{strideOf};
+ghost use Rattle.table.specs.Arriving.{creationOf, creationReply, created, arrivalOf, arrivalReply, arrivedAt};
+ghost use Rattle.state.specs.Asking.{permanentStateOf, snapshotOf, outcomeReply, afterState, afterSnapshot, placeOf, placeReply};
+ghost use Rattle.baselines.specs.Deriving.{derivationOf, derivationReply, afterDeriving};
+ghost use Rattle.timeslices.specs.Answers.{instantOf, numbersOf, partAt, partOf};
+ghost use Rattle.text.specs.Listing.{listingOf, putOf, listingReply, afterPut};
 use baselines::Derivation;
 use baselines::derive;
 use numbers::Instant;
@@ -42,7 +43,7 @@ pub struct Part {
 // Makes a table of a side and a feature that holds no record: kind 1. Refused: 1 and 2.
 #[no_mangle]
 pub extern "C" fn tsl_new_table(table: &mut [u8], side: u8, feature: &[u8; 16]) -> Answer
-    ensures answer { λ r. ⌜ r ≡ creationNumbers (creationOf (now (table .entry)) side) ⌝ }
+    ensures answer { λ r. ⌜ r ≡ numbersOf (creationReply (creationOf (now (table .entry)) side)) ⌝ }
     ensures buffer { λ r. ⌜ now (table .exit) ≡ created (creationOf (now (table .entry)) side) (now (table .entry)) side (now (feature .entry)) ⌝ }
 {
     match new_table(table, side, feature) {
@@ -58,7 +59,7 @@ pub extern "C" fn tsl_new_table(table: &mut [u8], side: u8, feature: &[u8; 16]) 
 // to 18.
 #[no_mangle]
 pub extern "C" fn tsl_arrive(table: &mut [u8], slice: &[u8]) -> Answer
-    ensures answer { λ r. ⌜ r ≡ arrivalNumbers (arrivalOf (now (table .entry)) (now (slice .entry))) ⌝ }
+    ensures answer { λ r. ⌜ r ≡ numbersOf (arrivalReply (arrivalOf (now (table .entry)) (now (slice .entry)))) ⌝ }
     ensures buffer { λ r. ⌜ now (table .exit) ≡ arrivedAt (now (table .entry)) (now (slice .entry)) ⌝ }
 {
     match arrive(table, slice) {
@@ -75,7 +76,7 @@ pub extern "C" fn tsl_arrive(table: &mut [u8], slice: &[u8]) -> Answer
 
 // The numbers of what a question answers that writes a record: 1 written.
 fn told(outcome: Outcome) -> Answer
-    ensures { λ r. ⌜ r ≡ outcomeNumbers outcome ⌝ }
+    ensures { λ r. ⌜ r ≡ numbersOf (outcomeReply outcome) ⌝ }
 {
     match outcome {
         Outcome::Written => Answer { kind: 1, number: 0 },
@@ -90,7 +91,7 @@ fn told(outcome: Outcome) -> Answer
 // byte as it was: 1 to 7 and 19 to 23.
 #[no_mangle]
 pub extern "C" fn tsl_permanent_state(permanent: &[u8], instant: u32, record: &mut [u8]) -> Answer
-    ensures answer { λ r. ⌜ r ≡ outcomeNumbers (permanentStateOf (now (permanent .entry)) (instantOf instant) (now («record» .entry))) ⌝ }
+    ensures answer { λ r. ⌜ r ≡ numbersOf (outcomeReply (permanentStateOf (now (permanent .entry)) (instantOf instant) (now («record» .entry)))) ⌝ }
     ensures buffer { λ r. ⌜ now («record» .exit) ≡ afterState (permanentStateOf (now (permanent .entry)) (instantOf instant) (now («record» .entry))) (now (permanent .entry)) (instantOf instant) (now («record» .entry)) ⌝ }
 {
     told(permanent_state(permanent, Instant(instant), record))
@@ -105,7 +106,7 @@ pub extern "C" fn tsl_snapshot(
     instant: u32,
     record: &mut [u8],
 ) -> Answer
-    ensures answer { λ r. ⌜ r ≡ outcomeNumbers (snapshotOf (now (permanent .entry)) (now (temporary .entry)) (instantOf instant) (now («record» .entry))) ⌝ }
+    ensures answer { λ r. ⌜ r ≡ numbersOf (outcomeReply (snapshotOf (now (permanent .entry)) (now (temporary .entry)) (instantOf instant) (now («record» .entry)))) ⌝ }
     ensures buffer { λ r. ⌜ now («record» .exit) ≡ afterSnapshot (snapshotOf (now (permanent .entry)) (now (temporary .entry)) (instantOf instant) (now («record» .entry))) (now (permanent .entry)) (now (temporary .entry)) (instantOf instant) (now («record» .entry)) ⌝ }
 {
     told(snapshot(permanent, temporary, Instant(instant), record))
@@ -113,7 +114,7 @@ pub extern "C" fn tsl_snapshot(
 
 // A property's part of a table, from a place on.
 fn part_at(kind: u32, table: &[u8], place: usize) -> Part
-    ensures { λ r. ⌜ r ≡ partAt kind (now (table .entry)) place ⌝ }
+    ensures { λ r. ⌜ r ≡ partAt kind place (strideOf (now (table .entry))) ⌝ }
 {
     let number = 0;
     let at = place as u64;
@@ -135,7 +136,7 @@ pub extern "C" fn tsl_property(
     instant: u32,
     property: u8,
 ) -> Part
-    ensures { λ r. ⌜ r ≡ placeNumbers (now (permanent .entry)) (now (temporary .entry)) (placeOf (now (permanent .entry)) (now (temporary .entry)) (instantOf instant) property) ⌝ }
+    ensures { λ r. ⌜ r ≡ partOf (now (permanent .entry)) (now (temporary .entry)) (placeReply (placeOf (now (permanent .entry)) (now (temporary .entry)) (instantOf instant) property)) ⌝ }
 {
     match locate(permanent, temporary, Instant(instant), property) {
         Place::Permanent(place) => part_at(1, permanent, place),
@@ -159,7 +160,7 @@ pub extern "C" fn tsl_property(
 // byte as it was: 1 to 7, 21, 23 and 24.
 #[no_mangle]
 pub extern "C" fn tsl_derive(permanent: &[u8], output: &mut [u8]) -> Answer
-    ensures answer { λ r. ⌜ r ≡ derivationNumbers (derivationOf (now (permanent .entry)) (now (output .entry))) ⌝ }
+    ensures answer { λ r. ⌜ r ≡ numbersOf (derivationReply (derivationOf (now (permanent .entry)) (now (output .entry)))) ⌝ }
     ensures buffer { λ r. ⌜ now (output .exit) ≡ afterDeriving (derivationOf (now (permanent .entry)) (now (output .entry))) (now (permanent .entry)) (now (output .entry)) ⌝ }
 {
     match derive(permanent, output) {
@@ -178,7 +179,7 @@ pub extern "C" fn tsl_derive(permanent: &[u8], output: &mut [u8]) -> Answer
 // buffer is shorter: kind 2, the length that the text needs, and every byte as it was. A refusal is a text.
 #[no_mangle]
 pub extern "C" fn tsl_listing(permanent: &[u8], text: &mut [u8]) -> Answer
-    ensures answer { λ r. ⌜ r ≡ listingNumbers (putOf (listingOf (now (permanent .entry))) (now (text .entry))) ⌝ }
+    ensures answer { λ r. ⌜ r ≡ numbersOf (listingReply (putOf (listingOf (now (permanent .entry))) (now (text .entry)))) ⌝ }
     ensures buffer { λ r. ⌜ now (text .exit) ≡ afterPut (putOf (listingOf (now (permanent .entry))) (now (text .entry))) (listingOf (now (permanent .entry))) (now (text .entry)) ⌝ }
 {
     match list(permanent, text) {

@@ -2,6 +2,7 @@
 use mathlib.Core.Path.{sym, _∙_}
 use native.Mathlib.Omega.{arith}
 use lib.Seq.{length-take-le}
+use Rattle.text.proofs.Replies.{listing-told}
 use Rattle.text.proofs.Said.{put-within}
 use borrow.Author.Needs.{needs}
 use Rattle.listing.proofs.main.Statement.{statement}
@@ -11,7 +12,7 @@ array-share-prefix-text : tie.Need-array-share-prefix-text
 array-share-prefix-text c =
     let k = c .before in
     let s = k .before .before .before .say in
-    omega (arith, put-within _ _ _ (sym (s .ensures .0) ∙ k .length .given .1))
+    omega (arith, put-within _ _ _ (sym (listing-told _ _ (s .ensures .0)) ∙ k .length .given .1))
 
 slice-aggregate-write-all : tie.Need-slice-aggregate-write-all
 slice-aggregate-write-all c = sym (length-take-le _ _ (array-share-prefix-text (c .before)))
