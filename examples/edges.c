@@ -59,6 +59,11 @@ static void sought(tsl_part part, const char *asked) {
     }
 }
 
+/* Prints the answer of a call that only reads. */
+static void looked(tsl_answer answer, const char *asked) {
+    say(answer.kind, answer.number, 0, asked);
+}
+
 /* Writes a number of four bytes, the highest first. */
 static void put(uint8_t *bytes, uint32_t number) {
     for (int i = 3; i >= 0; i--) {
@@ -156,6 +161,19 @@ int main(void) {
     sought(tsl_property(one, one_len, NULL, 0, 200, 0), "a property of a temporary table of no bytes");
     sought(tsl_property(NULL, 0, NULL, 0, 200, 0), "a property of two tables of no bytes");
     sought(tsl_property(NULL, 0, NULL, 0, 200, OTHER_PROPERTY), "property 8 of two tables of no bytes: 1 comes before 19");
+
+    looked(tsl_touched(NULL, 0, 200, 0), "whether a property is touched, in a table of no bytes");
+    looked(tsl_touched(NULL, 0, NONE, OTHER_PROPERTY),
+           "whether property 8 is touched, in a table of no bytes, at no instant: 1 comes before 19");
+    looked(tsl_touched(temporary, sizeof temporary - 1, 200, 0), "whether a property is touched, in 31 bytes");
+    looked(tsl_touched(temporary, sizeof temporary, 200, 7),
+           "whether property 7 is touched, in an empty table: no, and no record is looked at");
+    looked(tsl_touched(temporary, sizeof temporary, NONE - 1, 0), "whether a property is touched, at the last instant");
+    looked(tsl_touched(temporary, sizeof temporary, NONE, 0), "whether a property is touched, at no instant");
+    looked(tsl_touched(temporary, sizeof temporary, 200, OTHER_PROPERTY), "whether property 8 is touched: there are 0 to 7");
+    looked(tsl_touched(stranger, sizeof stranger, 200, 0),
+           "whether a property of another feature is touched: no other table is asked for");
+    looked(tsl_touched(one, one_len, NONE, 0), "whether a property is touched, in a permanent table: 2 comes before 19");
 
     told(tsl_derive(NULL, 0, lend(), sizeof lent), "the derived baselines of a table of no bytes");
     told(tsl_derive(one, one_len, NULL, 0), "the derived baselines in an output of no bytes: 32 and 224 do not fit");

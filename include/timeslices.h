@@ -131,6 +131,19 @@ tsl_part tsl_property(const uint8_t *permanent, size_t permanent_len, const uint
                       uint32_t instant, uint8_t property);
 
 /*
+ * Tells whether anything temporary touches a property (0 to 7) at an instant. Goes through a temporary table from its last
+ * record downward, and stops at the first TEMPDELTA that is not cancelled, is valid at the instant and mentions the property
+ * (nil is a mention). Reads no permanent table, so the answer may be yes where no state is known. Where tsl_property is not
+ * refused, the answer is yes exactly if tsl_property returns kind 2.
+ *
+ * Returns
+ *   kind 1   yes: number is the number of records looked at, the found one and all after it
+ *   kind 2   no: number is the number of records looked at, which is all of them
+ *   kind 0   refused: 1 to 7, 19
+ */
+tsl_answer tsl_touched(const uint8_t *temporary, size_t temporary_len, uint32_t instant, uint8_t property);
+
+/*
  * Derives the baselines of a permanent table. The output becomes a permanent table of the same feature; its bytes after the
  * last record are kept. 57376 bytes hold every result. Uses about 60 kB of stack.
  *

@@ -3,6 +3,7 @@
 mod derived;
 mod questions;
 mod scenes;
+mod touches;
 
 use crate::fixtures::FEATURE;
 use crate::layout::RECORD_BYTES;
@@ -51,6 +52,8 @@ enum Call {
     Property(Vec<u8>, u32, u8),
     /// All eight properties, one after the other, with a temporary table at an instant.
     Properties(Vec<u8>, u32),
+    /// Whether a property is touched at an instant; the table is a temporary one.
+    Touched(u32, u8),
     Derive,
     Listing,
 }
@@ -123,6 +126,7 @@ impl Use {
                 let refused = (0..8).filter(|&property| black_box(ask(property)).kind == 0);
                 Reply::new(u32::from(refused.count() == 0), 0)
             }
+            Call::Touched(instant, property) => (library.touched)(table, *instant, *property),
             Call::Derive => (library.derive)(table, &mut output[..table.len()]),
             Call::Listing => (library.listing)(table, &mut output[..TEXT]),
         }
@@ -146,7 +150,8 @@ impl Use {
     fn tables(&self) -> usize {
         match &self.call {
             Call::NewTable => 0,
-            Call::Arrive(_) | Call::State(_) | Call::Derive | Call::Listing => 1,
+            Call::Arrive(_) | Call::State(_) | Call::Touched(..) => 1,
+            Call::Derive | Call::Listing => 1,
             Call::Snapshot(..) | Call::Property(..) => 2,
             Call::Properties(..) => 16,
         }

@@ -3,7 +3,7 @@
 
 use crate::arrival;
 use crate::derived;
-use crate::layout::MOST_RECORDS;
+use crate::layout::{bytes_of, MOST_RECORDS};
 use crate::library::{Library, Reply};
 use crate::listing;
 use crate::play::further::{further, Judge};
@@ -12,6 +12,7 @@ use crate::question;
 use crate::table::{self, Sides};
 use crate::tables::{Product, Question, Tables};
 use crate::tally::{Answer, Tally};
+use crate::touched;
 use crate::vectors::format::{fill_lines, instant_line, line, output_line, record_line, EXCHANGE};
 use std::fmt;
 use std::time::{Duration, Instant};
@@ -35,13 +36,15 @@ struct Guarded {
 }
 
 /// A call after which the library's reply or bytes differ from this program's: the first wrong byte
-/// of the buffer that the call may change, and of each buffer that it only reads.
+/// of the buffer that the call may change, and of each buffer that it only reads; and the library's
+/// reply about a property, if its reply about what touches the property does not agree with that.
 pub struct Difference {
     lines: Vec<String>,
     right: Reply,
     reply: Reply,
     buffer: Option<isize>,
     handed: Vec<Option<isize>>,
+    property: Option<Reply>,
 }
 
 /// A library, and the count of its answers so far.
@@ -138,6 +141,7 @@ impl Player for Comparison<'_> {
             handed: handed
                 .map(|(guarded, bytes)| guarded.first_other(bytes))
                 .collect(),
+            property: call.other_property(self.library, reply),
         };
         if difference.is_none() {
             return Ok(());
@@ -170,6 +174,7 @@ impl Judge for Comparison<'_> {
             reply: Reply::new(1, 0),
             buffer,
             handed: vec![],
+            property: None,
         }))
     }
 }
@@ -179,6 +184,10 @@ impl Call<'_> {
     fn counted(&self, reply: Reply, buffer: &[u8]) -> Answer {
         let is_sound = |tables: &Tables| table::check(&tables.permanent, Sides::Permanent).is_ok();
         let is_temporary = match self {
+            Call::Ask {
+                question: Question::Touched(_),
+                ..
+            } => false,
             Call::Ask { tables, .. } => matches!(reply.number, 1..=7) && is_sound(tables),
             _ => false,
         };
@@ -204,6 +213,7 @@ impl Call<'_> {
                 Question::State => 'g',
                 Question::Snapshot => 'n',
                 Question::Property(_) => 'v',
+                Question::Touched(_) => 'u',
             },
             Call::Make { product, .. } => product.letter(),
         }
@@ -218,6 +228,7 @@ impl Call<'_> {
                 tables, question, ..
             } => match question {
                 Question::State => vec![&tables.permanent],
+                Question::Touched(_) => vec![&tables.temporary],
                 _ => vec![&tables.permanent, &tables.temporary],
             },
             Call::Make { permanent, .. } => vec![permanent],
@@ -238,7 +249,7 @@ impl Call<'_> {
                 question,
             } => {
                 let property: &[u8] = match question {
-                    Question::Property(number) => &[*number],
+                    Question::Property(number) | Question::Touched(number) => &[*number],
                     _ => &[],
                 };
                 let value = buffer.first().copied().unwrap_or(0);
@@ -291,12 +302,51 @@ impl Call<'_> {
                 Question::Property(number) => {
                     (library.property)(handed[0], handed[1], *instant, number)
                 }
+                Question::Touched(number) => (library.touched)(handed[0], *instant, number),
             },
             Call::Make { product, .. } => match product {
                 Product::Derived => (library.derive)(handed[0], buffer),
                 Product::Listing => (library.listing)(handed[0], buffer),
             },
         }
+    }
+
+    /// Returns what a library replies about a property, if that does not agree with its reply about
+    /// whether the property is touched.
+    fn other_property(&self, library: &Library, touched: Reply) -> Option<Reply> {
+        match self {
+            Call::Ask {
+                tables:
+                    Tables {
+                        permanent,
+                        temporary,
+                    },
+                instant,
+                question: Question::Touched(number),
+            } => {
+                let part = (library.property)(permanent, temporary, *instant, *number);
+                Some(part).filter(|part| !agree(touched, *part, temporary))
+            }
+            _ => None,
+        }
+    }
+}
+
+/// Returns whether a reply about what touches a property agrees with one about the property. Where
+/// a property is found or unmentioned, it is touched exactly if it is in the temporary table, and
+/// then in the last record looked at.
+fn agree(touched: Reply, part: Reply, temporary: &[u8]) -> bool {
+    match part.kind {
+        0 => true,
+        2 => {
+            let count = temporary.get(6..8).unwrap_or(&[0, 0]);
+            let count = 256 * usize::from(count[0]) + usize::from(count[1]);
+            let record = count.checked_sub(touched.number as usize);
+            let is_in =
+                |index| (bytes_of(index)..bytes_of(index + 1)).contains(&(part.at as usize));
+            touched.kind == 1 && record.is_some_and(is_in)
+        }
+        _ => touched.kind == 2,
     }
 }
 
@@ -334,6 +384,9 @@ impl Tables {
             Question::Property(number) => {
                 let part = question::property(permanent, temporary, instant, number);
                 Reply::of_part(part.map(|part| part.map(|part| (part.side, part.place))))
+            }
+            Question::Touched(number) => {
+                Reply::of_touched(touched::touched(temporary, instant, number))
             }
         }
     }
@@ -377,7 +430,8 @@ impl Guarded {
 impl Difference {
     /// Returns whether there is none.
     fn is_none(&self) -> bool {
-        self.reply == self.right && self.buffer.is_none() && self.handed.iter().all(Option::is_none)
+        let is_right = self.reply == self.right && self.property.is_none();
+        is_right && self.buffer.is_none() && self.handed.iter().all(Option::is_none)
     }
 }
 
@@ -396,6 +450,9 @@ impl fmt::Display for Difference {
             if let Some(byte) = byte {
                 writeln!(out, "handed part {index}: byte {byte} is not as expected")?;
             }
+        }
+        if let Some(property) = self.property {
+            writeln!(out, "but about the property itself: {property:?}")?;
         }
         Ok(())
     }
@@ -500,6 +557,71 @@ mod tests {
             ..PLAIN
         };
         assert!(![untimely, misplacing, meddling].iter().any(is_same));
+    }
+
+    /// A record too few, a walk that does not stop, an end that is included and a permanent table
+    /// that is taken are found.
+    #[test]
+    fn wrong_answers_about_what_touches_are_found() {
+        let short = Library {
+            touched: |temporary, instant, property| {
+                let reply = (PLAIN.touched)(temporary, instant, property);
+                Reply::new(reply.kind, reply.number.saturating_sub(1))
+            },
+            ..PLAIN
+        };
+        let tireless = Library {
+            touched: |temporary, instant, property| {
+                let reply = (PLAIN.touched)(temporary, instant, property);
+                match reply.kind {
+                    1 => Reply::new(1, temporary[7].into()),
+                    _ => reply,
+                }
+            },
+            ..PLAIN
+        };
+        let lingering = Library {
+            touched: |temporary, instant, property| {
+                (PLAIN.touched)(temporary, instant.saturating_sub(1), property)
+            },
+            ..PLAIN
+        };
+        let lenient = Library {
+            touched: |table, instant, property| {
+                let mut table = table.to_vec();
+                table.iter_mut().skip(3).take(1).for_each(|side| *side = 1);
+                (PLAIN.touched)(&table, instant, property)
+            },
+            ..PLAIN
+        };
+        assert!(![short, tireless, lingering, lenient].iter().any(is_same));
+    }
+
+    /// Where the property is found or unmentioned, yes goes with the temporary table alone, and with
+    /// the record of its bytes.
+    #[test]
+    fn what_touches_agrees_with_the_property() {
+        let temporary = [0, 0, 0, 0, 0, 0, 1, 0];
+        let part = |kind, at| Reply {
+            at,
+            size: 24,
+            ..Reply::new(kind, 0)
+        };
+        let holds = |touched, part| agree(touched, part, &temporary);
+        let (last, first) = (32 + 255 * 224 + 32, 32 + 32 + 7 * 24);
+        assert!(holds(Reply::new(1, 1), part(2, last)));
+        assert!(holds(Reply::new(1, 256), part(2, first)));
+        assert!(!holds(Reply::new(1, 2), part(2, last)));
+        assert!(!holds(Reply::new(1, 257), part(2, first)));
+        assert!(!holds(Reply::new(1, 255), part(2, first)));
+        assert!(!holds(Reply::new(2, 256), part(2, first)));
+        for other in [part(1, last), Reply::new(3, 0)] {
+            assert!(holds(Reply::new(2, 256), other));
+            assert!(!holds(Reply::new(1, 256), other));
+        }
+        for number in [8, 20, 21, 22] {
+            assert!(holds(Reply::new(1, 256), Reply::new(0, number)));
+        }
     }
 
     /// A record too few, and outputs that are touched where they should not be, are found.

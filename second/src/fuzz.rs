@@ -169,6 +169,7 @@ impl Program<'_> {
             Question::State,
             Question::Snapshot,
             Question::Property(property),
+            Question::Touched(property),
         ]);
         let call = Call::Ask {
             tables: &self.tables,
@@ -212,6 +213,10 @@ mod tests {
             },
             Library {
                 snapshot: |_, _, _, _| Reply::new(0, 1),
+                ..PLAIN
+            },
+            Library {
+                touched: |_, _, _| Reply::new(0, 1),
                 ..PLAIN
             },
             Library {

@@ -6,9 +6,11 @@ use crate::plain;
 use crate::record::Side;
 use crate::refusal::Refusal;
 use crate::table::Feature;
+use crate::touched::Touched;
 
-/// A reply as in the C interface. Kind 0 is a refusal and has its number; derived baselines have
-/// their count there, and a listing its length. Only a property has an offset and a size.
+/// A reply as in the C interface. Kind 0 is a refusal and has its number. Whether a property is
+/// touched has the number of records looked at there, derived baselines their count, and a listing
+/// its length. Only a property has an offset and a size.
 #[derive(Clone, Copy, Debug, PartialEq, Eq, PartialOrd, Ord)]
 pub struct Reply {
     pub kind: u32,
@@ -25,6 +27,7 @@ pub struct Library {
     pub permanent_state: fn(&[u8], u32, &mut [u8]) -> Reply,
     pub snapshot: fn(&[u8], &[u8], u32, &mut [u8]) -> Reply,
     pub property: fn(&[u8], &[u8], u32, u8) -> Reply,
+    pub touched: fn(&[u8], u32, u8) -> Reply,
     pub derive: fn(&[u8], &mut [u8]) -> Reply,
     pub listing: fn(&[u8], &mut [u8]) -> Reply,
 }
@@ -41,6 +44,9 @@ pub const PLAIN: Library = Library {
     },
     property: |permanent, temporary, instant, property| {
         Reply::of_part(plain::property([permanent, temporary], instant, property))
+    },
+    touched: |temporary, instant, property| {
+        Reply::of_touched(plain::touched(temporary, instant, property))
     },
     derive: |permanent, output| Reply::of_derived(plain::derive_by_walk(permanent, output)),
     listing: |permanent, text| {
@@ -118,6 +124,14 @@ impl Reply {
                 at: place as u64,
                 size: PROPERTY_BYTES as u64,
             })
+        })
+    }
+
+    /// Returns the reply of whether a property is touched: 1 for yes, 2 for no.
+    pub fn of_touched(touched: Result<Touched, Refusal>) -> Reply {
+        touched.map_or_else(Reply::refuse, |touched| {
+            let kind = if touched.is_touched { 1 } else { 2 };
+            Reply::new(kind, touched.looked as u32)
         })
     }
 

@@ -14,6 +14,7 @@ pub const LINKED: Library = Library {
     permanent_state,
     snapshot,
     property,
+    touched,
     derive,
     listing,
 };
@@ -89,6 +90,13 @@ fn property(permanent: &[u8], temporary: &[u8], instant: u32, property: u8) -> R
         at: part.at,
         size: part.size,
     }
+}
+
+/// Calls the library for whether a property is touched.
+fn touched(temporary: &[u8], instant: u32, property: u8) -> Reply {
+    let (length, place) = (temporary.len(), temporary.as_ptr());
+    // SAFETY: the pointer and the length are those of a live part, which is only read.
+    unsafe { raw::tsl_touched(place, length, instant, property) }.reply()
 }
 
 /// Calls the library for derived baselines.

@@ -44,6 +44,7 @@ mod table;
 mod tables;
 #[cfg(any(test, feature = "linked"))]
 mod tally;
+mod touched;
 mod vectors;
 
 use std::io::Write;

@@ -1,6 +1,6 @@
 //! The calls again, in place on the bytes, as a plain fast program does them. The library is
-//! measured against these. The tests compare them with `table`, `arrival`, `question`, `derived`
-//! and `listing`.
+//! measured against these. The tests compare them with `table`, `arrival`, `question`, `touched`,
+//! `derived` and `listing`.
 
 mod derive;
 mod few;
@@ -11,7 +11,7 @@ mod walk;
 
 pub use derive::{derive_by_steps, derive_by_sweeps, derive_by_walk, derive_on_heap};
 pub use listing::list;
-pub use state::{permanent_state, property, snapshot};
+pub use state::{permanent_state, property, snapshot, touched};
 
 use crate::arrival::Arrival;
 use crate::refusal::Refusal;

@@ -235,14 +235,18 @@ impl<'a, P: Player> Round<'a, P> {
         Ok(())
     }
 
-    /// Plays the permanent state, the snapshot and each property, sometimes into a new record.
+    /// Plays the permanent state, the snapshot, each property and whether it is touched, sometimes
+    /// into a new record.
     fn every_question(&mut self, asked: &Asked) -> Result<(), P::Fault> {
         if self.random.below(16) == 0 || self.record.len() != RECORD_BYTES {
             self.record = vec![self.random.byte(); RECORD_BYTES];
         }
         self.ask(asked, Question::State)?;
         self.ask(asked, Question::Snapshot)?;
-        (0..8).try_for_each(|property| self.ask(asked, Question::Property(property)))
+        (0..8).try_for_each(|property| {
+            self.ask(asked, Question::Property(property))?;
+            self.ask(asked, Question::Touched(property))
+        })
     }
 
     /// Plays questions that may be refused: for a table, the instant, the record or the property.
@@ -271,6 +275,7 @@ impl<'a, P: Player> Round<'a, P> {
             Question::State,
             Question::Snapshot,
             Question::Property(property),
+            Question::Touched(property),
         ];
         questions
             .into_iter()

@@ -27,8 +27,15 @@ fn both(permanent: &[u8], temporary: &[u8]) -> Result<(Table, Table), Refusal> {
 }
 
 /// Returns the instant of a question, or 19 if it is "none".
-fn asked(instant: u32) -> Result<Instant, Refusal> {
+pub fn asked(instant: u32) -> Result<Instant, Refusal> {
     Instant::given(instant).ok_or(Refusal::Asked)
+}
+
+/// Returns the property that a question names, or 19 if there is none of this number.
+pub fn known(property: u8) -> Result<usize, Refusal> {
+    let property = usize::from(property);
+    hold(property < PROPERTIES, Refusal::Asked)?;
+    Ok(property)
 }
 
 /// Returns 23 if the buffer is not exactly one record long.
@@ -76,8 +83,7 @@ pub fn property(
 ) -> Result<Option<Part>, Refusal> {
     let (permanent, temporary) = both(permanent, temporary)?;
     let instant = asked(instant)?;
-    let property = usize::from(property);
-    hold(property < PROPERTIES, Refusal::Asked)?;
+    let property = known(property)?;
     let lasting = lasting(&permanent, instant)?.into_iter();
     let passing = passing(&temporary, instant).into_iter();
     let of_permanent = lasting.map(|record| (&permanent, record));

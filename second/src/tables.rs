@@ -13,12 +13,14 @@ pub struct Tables {
     pub temporary: Vec<u8>,
 }
 
-/// A question about two tables at an instant; the permanent state needs only one of them.
+/// A question about two tables at an instant. The permanent state needs only the permanent one, and
+/// whether a property is touched only the temporary one.
 #[derive(Clone, Copy, Debug, PartialEq)]
 pub enum Question {
     State,
     Snapshot,
     Property(u8),
+    Touched(u8),
 }
 
 /// What a call makes of a permanent table and writes into an output.

@@ -13,7 +13,8 @@ pub struct Answer {
     pub kind: u32,
     /// The number of a refusal, or else 0.
     pub number: u32,
-    /// Whether the temporary table is refused, 1 to 7, while the permanent one is sound.
+    /// Whether a call that reads both tables refuses the temporary one, 1 to 7; the permanent one is
+    /// sound then.
     pub is_temporary: bool,
 }
 
@@ -34,7 +35,7 @@ struct Answers {
 const DERIVED: &[u32] = &[1, 2, 3, 4, 5, 6, 7, 21, 23];
 
 /// Every possible answer.
-const ALL: [Answers; 7] = [
+const ALL: [Answers; 8] = [
     Answers {
         letter: 'm',
         numbers: &[1, 2],
@@ -59,6 +60,11 @@ const ALL: [Answers; 7] = [
         letter: 'v',
         numbers: &[1, 2, 3, 4, 5, 6, 7, 8, 19, 20, 21, 22],
         words: &["permanent", "temporary", "unmentioned"],
+    },
+    Answers {
+        letter: 'u',
+        numbers: &[1, 2, 3, 4, 5, 6, 7, 19],
+        words: &["yes", "no"],
     },
     Answers {
         letter: 'e',
@@ -165,11 +171,11 @@ mod tests {
     #[test]
     fn what_was_not_counted_is_told() {
         let mut tally = Tally::default();
-        assert_eq!(tally.unseen().len(), 101);
+        assert_eq!(tally.unseen().len(), 111);
         tally.count(Answer::of('n', Reply::new(0, 3), true));
         tally.count(Answer::of('e', Reply::new(1, 9), false));
         tally.count(Answer::of('e', Reply::new(1, 2), false));
-        assert_eq!((tally.calls(), tally.unseen().len()), (3, 99));
+        assert_eq!((tally.calls(), tally.unseen().len()), (3, 109));
         let text = tally.to_string();
         assert!(text.starts_with("           2 e derived\n           1 n 3 temporary\n"));
         assert!(text.contains("m made, a 1,") && text.ends_with("y text, y needs\n"));

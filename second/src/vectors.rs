@@ -26,6 +26,7 @@ pub mod rules;
 mod slices;
 pub mod themes;
 mod times;
+mod touches;
 
 use crate::arrival::{self, Arrival};
 use crate::fixtures::Case;
@@ -103,6 +104,7 @@ pub fn all() -> Script {
     overlays::add(&mut script);
     revivals::add(&mut script);
     crowds::add(&mut script);
+    touches::add(&mut script);
     derived::add(&mut script);
     listed::add(&mut script);
     script
@@ -310,6 +312,7 @@ mod tests {
     use crate::property::{decode, find, properties};
     use crate::question::{permanent_state, property, snapshot};
     use crate::tables::Product;
+    use crate::touched::touched;
     use std::collections::BTreeMap;
 
     /// The seeds of random calls that the gate has.
@@ -356,7 +359,7 @@ mod tests {
                 "d" => decode(&self.buffer).map_or("broken".to_string(), |value| value.to_string()),
                 "r" => find(&properties(&self.buffer)).to_string(),
                 "s" => number_of(slice::check(&self.buffer, &self.feature, bytes[0])).to_string(),
-                "g" | "n" | "v" => self.answer_of_instant(letter, bytes),
+                "g" | "n" | "v" | "u" => self.answer_of_instant(letter, bytes),
                 "e" => self.answer_of_output(Product::Derived),
                 "y" => self.answer_of_output(Product::Listing),
                 _ => self.answer_of_table(letter, bytes),
@@ -370,7 +373,8 @@ mod tests {
             let answer = match letter {
                 "g" => asking::written(permanent_state(table, instant, &mut self.record)),
                 "n" => asking::written(snapshot(table, other, instant, &mut self.record)),
-                _ => asking::found(property(table, other, instant, bytes[0])),
+                "v" => asking::found(property(table, other, instant, bytes[0])),
+                _ => asking::told(touched(other, instant, bytes[0])),
             };
             answer + &changes(&before, &self.record)
         }
@@ -481,10 +485,11 @@ mod tests {
             ("n", "written 1 2 3 4 5 6 7 8 19 20 21 22 23", 20),
             ("v", "permanent temporary unmentioned", 20),
             ("v", "1 2 3 4 5 6 7 8 19 20 21 22", 20),
+            ("u", "yes no 1 2 3 4 5 6 7 19", 20),
             ("e", "derived 1 2 3 4 5 6 7 21 23", 10),
             ("y", "text needs", 10),
         ];
-        hold_answers(&all(), "smakgnvey", &expected);
+        hold_answers(&all(), "smakgnvuey", &expected);
     }
 
     /// As many lines as answers.

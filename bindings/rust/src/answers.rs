@@ -36,6 +36,17 @@ pub enum Mention<'a> {
     Unmentioned,
 }
 
+/// Whether anything temporary touches a property. Each case has the number of records looked at, from the
+/// last one of the table downward.
+#[derive(Clone, Copy, Debug, PartialEq, Eq, Hash)]
+pub enum Touched {
+    /// A valid TEMPDELTA mentions the property. The last one that does was looked at, and all records after
+    /// it.
+    Yes(usize),
+    /// No valid TEMPDELTA mentions the property. All records were looked at.
+    No(usize),
+}
+
 /// The error of a listing that does not fit its buffer.
 #[derive(Clone, Copy, Debug, PartialEq, Eq, Hash)]
 pub struct ListingNeeds(
@@ -76,6 +87,38 @@ impl<'a> Mention<'a> {
         match self {
             Mention::Permanent(bytes) | Mention::Temporary(bytes) => Some(bytes),
             Mention::Unmentioned => None,
+        }
+    }
+}
+
+impl Touched {
+    /// Returns whether the property is touched.
+    ///
+    /// # Examples
+    ///
+    /// ```
+    /// use timeslices::Touched;
+    ///
+    /// assert!(Touched::Yes(1).is_yes());
+    /// assert!(!Touched::No(256).is_yes());
+    /// ```
+    pub const fn is_yes(self) -> bool {
+        matches!(self, Touched::Yes(_))
+    }
+
+    /// Returns how many records were looked at.
+    ///
+    /// # Examples
+    ///
+    /// ```
+    /// use timeslices::Touched;
+    ///
+    /// assert_eq!(Touched::Yes(1).looked(), 1);
+    /// assert_eq!(Touched::No(256).looked(), 256);
+    /// ```
+    pub const fn looked(self) -> usize {
+        match self {
+            Touched::Yes(looked) | Touched::No(looked) => looked,
         }
     }
 }

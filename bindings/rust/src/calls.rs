@@ -1,6 +1,6 @@
 //! The calls of the library.
 
-use crate::answers::{Arrival, ListingNeeds, Mention, Side};
+use crate::answers::{Arrival, ListingNeeds, Mention, Side, Touched};
 use crate::instant::Instant;
 use crate::raw;
 use crate::refusal::Refusal;
@@ -254,6 +254,60 @@ impl raw::Part {
             usize::try_from(self.size).ok()?,
         );
         table.get(at..)?.get(..size)
+    }
+}
+
+/// Returns whether anything temporary touches a property (0 to 7) at an instant, and how many records were
+/// looked at.
+///
+/// Goes through a temporary table from its last record downward, and stops at the first TEMPDELTA that is not
+/// cancelled, is valid at the instant and mentions the property. Nil is a mention. Reads no permanent table:
+/// the answer may be [`Touched::Yes`] where no state is known. Where [`property`](property()) is not refused,
+/// the answer is yes exactly if the result there is [`Mention::Temporary`].
+///
+/// # Errors
+///
+/// Returns one of the [refusals](Refusal) 1 to 7 and 19.
+///
+/// # Examples
+///
+/// ```
+/// use timeslices::{arrive, new_table, table_bytes, touched};
+/// use timeslices::{Instant, Refusal, Side, Touched, SLICE_BYTES};
+///
+/// let mut temporary = vec![0; table_bytes(4)];
+/// new_table(&mut temporary, Side::Temporary, &[7; 16])?;
+/// let at = |seconds| Instant::new(seconds).expect("an instant");
+/// assert_eq!(touched(&temporary, at(120), 0), Ok(Touched::No(0)));
+///
+/// let mut slice = [0; SLICE_BYTES];
+/// slice[..16].fill(7); // the feature
+/// slice[16] = 3; // a TEMPDELTA
+/// slice[27] = 120; // from 120 on
+/// slice[28..40].fill(255); // no end, no life begin, no life end
+/// slice[48] = 1; // property 0 is nil
+/// slice[49] = 4; // unknown
+/// for sequence in 1..=3 {
+///     slice[23] = sequence;
+///     arrive(&mut temporary, &slice)?;
+///     slice[27] += 10; // the next one begins 10 later
+/// }
+/// assert_eq!(touched(&temporary, at(119), 0), Ok(Touched::No(3)));
+/// assert_eq!(touched(&temporary, at(120), 0), Ok(Touched::Yes(3)));
+/// assert_eq!(touched(&temporary, at(140), 0), Ok(Touched::Yes(1)));
+/// assert_eq!(touched(&temporary, at(140), 1), Ok(Touched::No(3)));
+/// assert_eq!(touched(&temporary, at(140), 8), Err(Refusal::InstantOrProperty));
+/// # Ok::<(), Refusal>(())
+/// ```
+pub fn touched(temporary: &[u8], instant: Instant, property: u8) -> Result<Touched, Refusal> {
+    let (place, length) = (temporary.as_ptr(), temporary.len());
+    // SAFETY: the table has as many bytes as its length says, and is only read. The library does not keep the
+    // pointer.
+    let answer = unsafe { raw::tsl_touched(place, length, instant.seconds(), property) };
+    match answer.kind {
+        1 => Ok(Touched::Yes(answer.number as usize)),
+        2 => Ok(Touched::No(answer.number as usize)),
+        _ => Err(Refusal::told(answer.number)),
     }
 }
 

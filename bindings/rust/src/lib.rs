@@ -2,8 +2,9 @@
 //!
 //! A feature has two tables, which are buffers of bytes: the permanent table holds its BASELINEs and
 //! PERMDELTAs, the temporary table its TEMPDELTAs. [`arrive`] delivers a slice to a table.
-//! [`permanent_state`], [`snapshot`] and [`property`](property()) ask about an instant. [`derive`](derive())
-//! and [`listing`] derive baselines. The file `docs/FORMAT.md` of the repository describes the bytes.
+//! [`permanent_state`], [`snapshot`], [`property`](property()) and [`touched`] ask about an instant.
+//! [`derive`](derive()) and [`listing`] derive baselines. The file `docs/FORMAT.md` of the repository describes
+//! the bytes.
 //!
 //! This crate calls the proved library of the same name. For every table, slice and instant it is proved
 //! what a call returns and which bytes it writes. A refused call returns a [`Refusal`] and changes no byte.
@@ -71,9 +72,10 @@ mod instant;
 mod raw;
 mod refusal;
 
-pub use answers::{Arrival, ListingNeeds, Mention, Side};
+pub use answers::{Arrival, ListingNeeds, Mention, Side, Touched};
 pub use calls::{
     arrive, derive, listing, listing_string, new_table, permanent_state, property, snapshot,
+    touched,
 };
 pub use instant::{Instant, NoInstant, Utc, NONE};
 pub use refusal::{NoRefusal, Refusal};

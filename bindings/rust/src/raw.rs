@@ -58,6 +58,13 @@ unsafe extern "C" {
         property: u8,
     ) -> Part;
 
+    pub fn tsl_touched(
+        temporary: *const u8,
+        temporary_len: usize,
+        instant: u32,
+        property: u8,
+    ) -> Answer;
+
     pub fn tsl_derive(
         permanent: *const u8,
         permanent_len: usize,

@@ -29,6 +29,12 @@ pub fn put_digits(out: &mut [u8], at: usize, n: u64) -> usize {
     put(out, at, &digits[..k])
 }
 
+// Writes a word and a number.
+pub fn put_counted(out: &mut [u8], at: usize, word: &[u8], n: usize) -> usize {
+    let a = put(out, at, word);
+    put_digits(out, a, n as u64)
+}
+
 // Writes a number in decimal, and ends the line.
 fn put_decimal(out: &mut [u8], at: usize, n: u64) -> usize {
     let a = put_digits(out, at, n);

@@ -2,6 +2,7 @@
 use crate::answers::put;
 use crate::answers::put_byte;
 use crate::answers::put_changes;
+use crate::answers::put_counted;
 use crate::answers::put_digits;
 use crate::lent::keep;
 use numbers::Instant;
@@ -9,6 +10,7 @@ use octets::byte;
 use state::Outcome;
 use state::Place;
 use state::Source;
+use state::Touched;
 
 // Writes what a question answers that writes a record.
 fn put_outcome(out: &mut [u8], at: usize, o: Outcome) -> usize {
@@ -145,6 +147,21 @@ fn ask_property<'a>(
     put(out, c, b"\n")
 }
 
+// Writes whether a property is touched, and how many records were looked at.
+fn put_touched(out: &mut [u8], at: usize, t: Touched) -> usize {
+    match t {
+        Touched::Yes(looked) => put_counted(out, at, b"yes ", looked),
+        Touched::No(looked) => put_counted(out, at, b"no ", looked),
+        Touched::Refused(refusal) => put_digits(out, at, refusal.number as u64),
+    }
+}
+
+// Asks whether a property is touched, and writes the answer.
+fn ask_touched(number: u8, temporary: &[u8], instant: Instant, out: &mut [u8], at: usize) -> usize {
+    let a = put_touched(out, at, state::touched(temporary, instant, number));
+    put(out, a, b"\n")
+}
+
 // Writes the answer to a letter that asks about an instant, and answers the place after it. No other
 // letter has an answer here.
 pub fn ask_instant<'a>(
@@ -160,6 +177,7 @@ pub fn ask_instant<'a>(
     match letter {
         b'g' | b'n' => ask_record(letter, permanent, temporary, instant, record, out, at),
         b'v' => ask_property(number, permanent, temporary, instant, out, at),
+        b'u' => ask_touched(number, temporary, instant, out, at),
         _ => at,
     }
 }

@@ -44,7 +44,7 @@ fn has_length(letter: u8, n: usize) -> bool {
         b'l' => n == 7,
         b'w' => (n % 2 == 1) & (7 <= n),
         b'd' | b'r' | b'z' | b'a' | b'x' | b'g' | b'n' | b'e' | b'y' => n == 1,
-        b's' | b'k' | b'm' | b'v' => n == 3,
+        b's' | b'k' | b'm' | b'v' | b'u' => n == 3,
         _ => false,
     }
 }

@@ -20,6 +20,8 @@
 //   g                 asks for the permanent state of the table at the instant, into the record
 //   n                 asks for the snapshot of the table and the other one at the instant, into the record
 //   v PROPERTY        asks for the property of this number of the same tables at the instant
+//   u PROPERTY        asks whether the other table, as the temporary one, touches the property of this number
+//                     at the instant
 //   e                 asks for the derived baselines of the table, into the output
 //   y                 asks for the listing of the table, into the output
 //

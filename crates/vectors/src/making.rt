@@ -1,17 +1,11 @@
 // The asks for what is made of a table, the derived baselines and their listing, and the text of their
 // answers, as the functions of `answers` have it.
-use crate::answers::put;
 use crate::answers::put_changes;
+use crate::answers::put_counted;
 use crate::answers::put_digits;
 use crate::lent::keep;
 use baselines::Derivation;
 use text::Listing;
-
-// Writes a word and a number.
-fn put_counted(out: &mut [u8], at: usize, word: &[u8], n: usize) -> usize {
-    let a = put(out, at, word);
-    put_digits(out, a, n as u64)
-}
 
 // Writes what a derivation answers.
 fn put_derivation(out: &mut [u8], at: usize, d: Derivation) -> usize {

@@ -2,6 +2,7 @@
 
 use super::derived::{self, Shape};
 use super::questions::{asked, Make};
+use super::touches::{self, Hit};
 use super::{Call, Scene, Use, RECORDS, TEXT};
 use crate::fixtures::{cases, table_of, FEATURE, RECORD};
 use crate::layout::{bytes_of, HEADER_BYTES, RECORD_BYTES};
@@ -11,6 +12,10 @@ use crate::question::property;
 use crate::random::Random;
 use crate::record::{Kind, Side};
 use crate::supply;
+use crate::touched::touched;
+
+/// Where a property may be touched last.
+const HITS: [Hit; 3] = [Hit::End, Hit::Front, Hit::Nowhere];
 
 /// Makes every scene on tables of this many records, in the order of the table that is printed.
 pub fn all(count: usize) -> Vec<Scene> {
@@ -41,6 +46,11 @@ pub fn all(count: usize) -> Vec<Scene> {
             (format!("tsl_property, {make:?}: all eight"), 4),
         ];
         all.extend(scenes(count, names, |seed| questions(make, count, seed)));
+    }
+    for make in [Make::Alike, Make::Mixed] {
+        let name = |hit: Hit| (format!("tsl_touched, {make:?}: {}", hit.name()), 16);
+        let names = HITS.map(name);
+        all.extend(scenes(count, names, |seed| touching(make, count, seed)));
     }
     for shape in [Shape::Row, Shape::Line, Shape::Open] {
         let names = ["derive", "listing"].map(|name| (format!("tsl_{name}, {shape:?}"), 1));
@@ -147,6 +157,21 @@ fn questions(make: Make, count: usize, seed: u64) -> [Use; 4] {
         },
         made(Call::Properties(temporary, instant)),
     ]
+}
+
+/// Makes the questions whether a property is touched, one for each place of the last record that
+/// touches it.
+fn touching(make: Make, count: usize, seed: u64) -> [Use; 3] {
+    let number = (seed % 8) as u8;
+    HITS.map(|hit| {
+        let table = touches::table(make, hit, count, number.into(), seed);
+        let right = Reply::of_touched(touched(&table, touches::INSTANT, number));
+        Use {
+            table,
+            call: Call::Touched(touches::INSTANT, number),
+            right,
+        }
+    })
 }
 
 /// Makes the derived baselines and the listing of a table.

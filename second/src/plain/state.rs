@@ -3,6 +3,7 @@
 use super::{check_table, number, Part, Record, HEADER, NONE};
 use crate::record::Side;
 use crate::refusal::Refusal;
+use crate::touched::Touched;
 
 /// The bytes of a property that nothing mentions: nil, unknown.
 const UNKNOWN: Part = {
@@ -77,14 +78,10 @@ pub fn snapshot(tables: [&[u8]; 2], instant: u32, record: &mut [u8]) -> Result<(
 /// Returns the table whose record mentions a property last, and the offset of its bytes.
 pub fn property(tables: [&[u8]; 2], instant: u32, number: u8) -> Result<Place, Refusal> {
     let [lasting, passing] = check_tables(tables)?;
-    let property = usize::from(number);
-    if instant == NONE || property > 7 {
-        return Err(Refusal::Asked);
-    }
+    let property = check_property(instant, number)?;
     let last = Line::at(by_kind(lasting), instant)?.last_mention(property)?;
-    let is_mention = |delta: &Record| holds(delta, instant) && parts_of(delta)[property][0] != 0;
     let place = |index: usize| HEADER + 224 * index + 32 + 24 * property;
-    if let Some(index) = passing.iter().rposition(is_mention) {
+    if let Some(index) = last_touch(passing, instant, property) {
         return Ok(Some((Side::Temporary, place(index))));
     }
     Ok(last.map(|record| {
@@ -93,6 +90,24 @@ pub fn property(tables: [&[u8]; 2], instant: u32, number: u8) -> Result<Place, R
             .expect("a record of the table");
         (Side::Permanent, place(index))
     }))
+}
+
+/// Returns whether a TEMPDELTA of the instant mentions a property. Goes from the last record
+/// downward, and stops at the first one that does.
+pub fn touched(temporary: &[u8], instant: u32, number: u8) -> Result<Touched, Refusal> {
+    let passing = check_table(temporary, 1..=1)?;
+    let property = check_property(instant, number)?;
+    let last = last_touch(passing, instant, property);
+    Ok(Touched {
+        is_touched: last.is_some(),
+        looked: passing.len() - last.unwrap_or(0),
+    })
+}
+
+/// Returns the index of the last TEMPDELTA of the instant that mentions a property, if one does.
+fn last_touch(passing: &[Record], instant: u32, property: usize) -> Option<usize> {
+    let touches = |delta: &Record| holds(delta, instant) && parts_of(delta)[property][0] != 0;
+    passing.iter().rposition(touches)
 }
 
 /// Returns the life times and the properties of the permanent state of sound records, or 21, 20 or
@@ -123,6 +138,14 @@ fn check_asked(instant: u32, record: &mut [u8]) -> Result<&mut Record, Refusal> 
         return Err(Refusal::Asked);
     }
     record.try_into().map_err(|_| Refusal::Buffer)
+}
+
+/// Returns the property of a question about an instant, or 19.
+fn check_property(instant: u32, number: u8) -> Result<usize, Refusal> {
+    if instant == NONE || number > 7 {
+        return Err(Refusal::Asked);
+    }
+    Ok(number.into())
 }
 
 /// Returns the eight properties of a record.

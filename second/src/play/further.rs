@@ -157,6 +157,7 @@ impl<P: Judge> Round<'_, P> {
         self.ask(&asked, Question::Snapshot)?;
         let property = self.random.below(8) as u8;
         self.ask(&asked, Question::Property(property))?;
+        self.ask(&asked, Question::Touched(property))?;
         self.products(&tables.permanent, &[bytes_of(18)])
     }
 

@@ -9,6 +9,7 @@ use crate::question::{permanent_state, property, snapshot, Part};
 use crate::record::Side;
 use crate::refusal::Refusal;
 use crate::tables::{Question, Tables};
+use crate::touched::{touched, Touched};
 
 /// Returns the word of a written record, or the number of the refusal.
 pub fn written(written: Result<(), Refusal>) -> String {
@@ -20,6 +21,15 @@ pub fn found(part: Result<Option<Part>, Refusal>) -> String {
     let place = |part: Part| format!("{} {} {}", part.side, part.place, digits(&part.bytes));
     part.map_or_else(refused, |part| {
         part.map_or("unmentioned".to_string(), place)
+    })
+}
+
+/// Returns the words of whether a property is touched: yes or no, and how many records were looked
+/// at.
+pub fn told(touched: Result<Touched, Refusal>) -> String {
+    touched.map_or_else(refused, |touched| {
+        let word = if touched.is_touched { "yes" } else { "no" };
+        format!("{word} {}", touched.looked)
     })
 }
 
@@ -35,14 +45,18 @@ impl Script {
         let mut lines = self.set_tables(&tables.permanent, &tables.temporary);
         lines.extend(self.set_instant(instant));
         let (table, other) = (&self.made.table, &self.made.other);
-        if let Question::Property(number) = question {
-            let answer = found(property(table, other, instant, number));
-            return self.ask(lines, line('v', &[number]), answer);
-        }
         let mut after = record.to_vec();
         let (letter, answer) = match question {
             Question::State => ('g', permanent_state(table, instant, &mut after)),
-            _ => ('n', snapshot(table, other, instant, &mut after)),
+            Question::Snapshot => ('n', snapshot(table, other, instant, &mut after)),
+            Question::Property(number) => {
+                let answer = found(property(table, other, instant, number));
+                return self.ask(lines, line('v', &[number]), answer);
+            }
+            Question::Touched(number) => {
+                let answer = told(touched(other, instant, number));
+                return self.ask(lines, line('u', &[number]), answer);
+            }
         };
         let answer = written(answer) + &changes(record, &after);
         lines.extend(value_line(
@@ -55,17 +69,15 @@ impl Script {
         self.ask(lines, line(letter, &[]), answer);
     }
 
-    /// Asks for the permanent state, the snapshot and some properties at instants, into the last
-    /// record, or after a title into a new one.
+    /// Asks for the permanent state, the snapshot and some properties at instants, and whether these
+    /// are touched; into the last record, or after a title into a new one.
     pub fn ask_at(&mut self, tables: &Tables, instants: &[u32], properties: &[u8]) {
         for &instant in instants {
             for question in [Question::State, Question::Snapshot] {
                 let record = self.next_record();
                 self.ask_question(tables, instant, question, &record);
             }
-            for &number in properties {
-                self.ask_property(tables, instant, number);
-            }
+            self.ask_properties(tables, instant, properties);
         }
     }
 
@@ -99,9 +111,12 @@ impl Script {
         own.clone_from(&self.made.table);
     }
 
-    /// Asks for a property at an instant.
-    pub fn ask_property(&mut self, tables: &Tables, instant: u32, number: u8) {
-        self.ask_question(tables, instant, Question::Property(number), &[]);
+    /// Asks for some properties at an instant, and whether they are touched.
+    pub fn ask_properties(&mut self, tables: &Tables, instant: u32, properties: &[u8]) {
+        for &number in properties {
+            self.ask_question(tables, instant, Question::Property(number), &[]);
+            self.ask_question(tables, instant, Question::Touched(number), &[]);
+        }
     }
 
     /// Changes the table and the other one; returns the lines that do so.

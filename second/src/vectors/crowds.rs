@@ -42,6 +42,19 @@ fn lasting_changes(script: &mut Script) {
     script.ask_at(&tables, &early, &[0, 1, 2, 3, 4, 5, 6, 7]);
     script.ask_at(&tables, &late, &[0, 1, 2, 3, 4, 5, 6, 7]);
     last_records_broken(script, &tables);
+    fewer_passing(script, &tables);
+}
+
+/// Adds the same tables with other counts of TEMPDELTAs, where only the first is valid, where all
+/// are, and where none is.
+fn fewer_passing(script: &mut Script, tables: &Tables) {
+    for count in [1u16, 254, 255, 256, 257] {
+        let mut tables = tables.clone();
+        tables.temporary[6..8].copy_from_slice(&count.to_be_bytes());
+        for instant in [1001, 1002, 1512, 2996, 2997] {
+            script.ask_properties(&tables, instant, &[0, 1, 7]);
+        }
+    }
 }
 
 /// Adds full tables with the last record of either broken, or of another time.

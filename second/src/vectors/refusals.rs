@@ -90,16 +90,17 @@ impl Asking {
         self
     }
 
-    /// Returns its three questions.
-    fn questions(&self) -> [Question; 3] {
+    /// Returns its questions, one of each sort.
+    fn questions(&self) -> [Question; 4] {
         [
             Question::State,
             Question::Snapshot,
             Question::Property(self.property),
+            Question::Touched(self.property),
         ]
     }
 
-    /// Adds its three questions, into the last record if that has the length.
+    /// Adds its questions, into the last record if that has the length.
     fn add(&self, script: &mut Script) {
         for question in self.questions() {
             let record = match self.length {
@@ -265,7 +266,7 @@ fn properties(script: &mut Script) {
     script.title("questions: every property number");
     let Asking { tables, .. } = Asking::sound();
     for instant in [150, 99, NONE] {
-        (0..=255).for_each(|number| script.ask_property(&tables, instant, number));
+        script.ask_properties(&tables, instant, &Vec::from_iter(0..=255));
     }
 }
 
@@ -274,6 +275,7 @@ mod tests {
     use super::*;
     use crate::question::{permanent_state, property, snapshot};
     use crate::refusal::number_of;
+    use crate::touched::touched;
 
     impl Stage {
         /// Returns its number in the specification.
@@ -290,11 +292,16 @@ mod tests {
 
         /// Returns whether a question looks at what is wrong.
         fn concerns(self, question: Question) -> bool {
+            let is_state = question == Question::State;
+            let is_touched = matches!(question, Question::Touched(_));
+            let is_of_property = is_touched || matches!(question, Question::Property(_));
             match self {
-                Stage::Permanent(_) | Stage::Instant | Stage::State(_) => true,
-                Stage::Temporary(_) | Stage::Feature => question != Question::State,
-                Stage::Property => matches!(question, Question::Property(_)),
-                Stage::Buffer => !matches!(question, Question::Property(_)),
+                Stage::Permanent(_) | Stage::State(_) => !is_touched,
+                Stage::Temporary(_) => !is_state,
+                Stage::Feature => !is_state && !is_touched,
+                Stage::Instant => true,
+                Stage::Property => is_of_property,
+                Stage::Buffer => !is_of_property,
             }
         }
     }
@@ -319,6 +326,9 @@ mod tests {
                     }
                     Question::Property(number) => {
                         property(permanent, temporary, asking.instant, number).map(|_| ())
+                    }
+                    Question::Touched(number) => {
+                        touched(temporary, asking.instant, number).map(|_| ())
                     }
                 };
                 assert_eq!(

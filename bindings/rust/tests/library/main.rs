@@ -4,3 +4,4 @@ mod calls;
 mod examples;
 mod refusals;
 mod slices;
+mod touched;

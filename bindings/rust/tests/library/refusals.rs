@@ -3,7 +3,7 @@
 use crate::slices::*;
 use timeslices::{
     arrive, derive, listing, listing_string, new_table, permanent_state, property, snapshot,
-    ListingNeeds, Refusal, Side, LARGEST_TABLE, NONE, RECORD_BYTES,
+    touched, ListingNeeds, Refusal, Side, LARGEST_TABLE, NONE, RECORD_BYTES,
 };
 
 /// Returns the number of a refusal, or 0 if nothing is refused.
@@ -38,6 +38,11 @@ fn asked(tables: &Tables, instant: u32, length: usize, asked: u8) -> [u32; 3] {
         }),
         number(property(permanent, temporary, instant, asked)),
     ]
+}
+
+/// Returns the number of the question whether a property is touched.
+fn touch(temporary: &[u8], instant: u32, asked: u8) -> u32 {
+    number(touched(temporary, at(instant), asked))
 }
 
 /// Returns the number of a derivation into an output of a length.
@@ -113,7 +118,11 @@ fn a_wrong_temporary_table() {
         };
         assert_eq!(asked(&tables, 125, RECORD_BYTES, 8), [0, number, number]);
         assert_eq!(asked(&tables, 125, 0, 8), [23, number, number]);
+        assert_eq!(touch(&tables.temporary, 125, 0), number);
+        assert_eq!(touch(&tables.temporary, 125, 8), number);
     }
+    assert_eq!(touch(&permanent, 125, 0), 2);
+    assert_eq!(touch(&permanent, 125, 8), 2);
     let twice = Tables {
         temporary: permanent.clone(),
         permanent,
@@ -283,6 +292,20 @@ fn questions_that_have_no_answer() {
     assert_eq!(asked(&closed, 300, 0, 8), [23, 23, 19]);
 }
 
+/// 19 of what touches a property; nothing of the permanent table is asked for, and no state.
+#[test]
+fn a_property_that_there_is_not() {
+    let mut temporary = filled().temporary;
+    for instant in [0, 125, NONE - 1] {
+        for number in 0..=255 {
+            let expected = if number < 8 { 0 } else { 19 };
+            assert_eq!(touch(&temporary, instant, number), expected);
+        }
+    }
+    temporary[8..24].fill(0);
+    assert_eq!(touch(&temporary, 125, 7), 0);
+}
+
 /// 21 and 23 of derived baselines.
 #[test]
 fn baselines_that_cannot_be_derived() {
@@ -331,6 +354,7 @@ fn empty_buffers() {
         temporary: vec![],
     };
     assert_eq!(asked(&none, 125, 0, 0), [1; 3]);
+    assert_eq!(touch(&[], 125, 8), 1);
     assert_eq!(asked(&tables, 125, 0, 0), [23, 23, 0]);
     assert_eq!(number(derive(&[], &mut [])), 1);
     assert_eq!(number(derive(&tables.permanent, &mut [])), 23);
