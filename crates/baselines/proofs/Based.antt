@@ -34,7 +34,7 @@ use Rattle.history.specs.Counted.{counts}
 use Rattle.history.specs.State.{started}
 use Rattle.state.specs.Written.{propertyBytes}
 use Rattle.state.proofs.Slices.{view-eight}
-use Rattle.state.proofs.Written.{mention-bytes}
+use Rattle.state.proofs.RecordProperties.{mention-bytes}
 use Rattle.baselines.specs.Carried.{Carries}
 use Rattle.baselines.proofs.Changes.{bytes-records, bytes-drop}
 
@@ -71,21 +71,25 @@ zero-bytes : (r : List ℕ) (n at : ℕ) → filled 0 n r at ≡ true → at + n
 unfolding filled
 zero-bytes r n at e k =
     let y = and-both (there n r at) (each (λ i. eqb (byteOf r i) 0) n at) e .1 in
-    zeros-run n (drop at r) (simp length-drop (omega arith)) (λ i h. getD-drop at r i 0 ∙ eqb-true (byteOf r (at + i)) 0 (each-at (λ i. eqb (byteOf r i) 0) n at y i h))
+    zeros-run n (drop at r) (simp length-drop (omega arith))
+    (λ i h. getD-drop at r i 0 ∙ eqb-true (byteOf r (at + i)) 0 (each-at (λ i. eqb (byteOf r i) 0) n at y i h))
 
 cut : (n at : ℕ) (r x : List ℕ) → take n (drop at r) ≡ x → drop at r ≡ x ++ drop (at + n) r
 cut n at r x e = sym (take-append-drop n (drop at r)) ∙ (λ i. e i ++ drop-drop n at r i)
 
 -- ---- properties that are all mentioned are written as they stand
 module _ (stride : ℕ) where
-  all-written : (xs : List (List ℕ)) → ((x : List ℕ) → In x xs → isMentioned (propertyOf x) ≡ true) → map (propertyBytes stride) (map propertyOf xs) ≡ xs
+  all-written : (xs : List (List ℕ)) → ((x : List ℕ) → In x xs → isMentioned (propertyOf x) ≡ true)
+      → map (propertyBytes stride) (map propertyOf xs) ≡ xs
   all-written [] h = refl
   all-written (x ∷ xs) h = λ i. mention-bytes stride (mentioned x) x (h x (inl refl)) i ∷ all-written xs (λ y m. h y (inr m)) i
 
-  module _ (r : List ℕ) (bytes : Bytes r) (size : length r ≡ recordSize stride) (clear : filled 0 8 r 24 ≡ true) (every : all isMentioned (viewOf stride r .properties) ≡ true) where
+  module _ (r : List ℕ) (bytes : Bytes r) (size : length r ≡ recordSize stride) (clear : filled 0 8 r 24 ≡ true)
+      (every : all isMentioned (viewOf stride r .properties) ≡ true) where
     parts-mentioned : (x : List ℕ) → In x (partsOf stride r) → isMentioned (propertyOf x) ≡ true
     unfolding viewOf
-    parts-mentioned x m = all-in isMentioned (map propertyOf (partsOf stride r)) every (propertyOf x) (in-map propertyOf (partsOf stride r) x m)
+    parts-mentioned x m =
+        all-in isMentioned (map propertyOf (partsOf stride r)) every (propertyOf x) (in-map propertyOf (partsOf stride r) x m)
 
     parts-laid : joined (map (propertyBytes stride) (viewOf stride r .properties)) ≡ drop 32 r
     unfolding viewOf propertiesOf
@@ -121,7 +125,8 @@ module _ (p : List ℕ) (bytes : Bytes p) (sound : checkTable Permanent p ≡ So
   abbrev at : ℕ → List ℕ
   at i = recordAt (recordSize (strideOf p)) i p
 
-  pub carry-base : (i : ℕ) → i < countOf p → counts baseline (viewOf (strideOf p) (at i)) ≡ true → Carries (strideOf p) (started (viewOf (strideOf p) (at i))) (at i)
+  pub carry-base : (i : ℕ) → i < countOf p → counts baseline (viewOf (strideOf p) (at i)) ≡ true
+      → Carries (strideOf p) (started (viewOf (strideOf p) (at i))) (at i)
   unfolding counts contentRight contentOf viewOf
   carry-base i h c =
       let (k, n) = and-both (eqb (viewOf (strideOf p) (at i) .kind) baseline) (not (viewOf (strideOf p) (at i) .cancelled)) c in

@@ -45,7 +45,8 @@ over-all zero [] olds e f = refl
 over-all zero (v ∷ news) olds e f = absurd (omega arith)
 over-all (suc n) [] olds e f = absurd (omega arith)
 over-all (suc n) (v ∷ news) [] e f = absurd (omega arith)
-over-all (suc n) (v ∷ news) (o ∷ olds) e f = ap (λ (l : List Property). newer v o ∷ l) (over-all n news olds (omega arith) (omega arith))
+over-all (suc n) (v ∷ news) (o ∷ olds) e f =
+    ap (λ (l : List Property). newer v o ∷ l) (over-all n news olds (omega arith) (omega arith))
 
 over-length : (n : ℕ) (news olds : List Property) → length (overTo n news olds) ≡ length olds
 over-length zero news olds = refl
@@ -54,7 +55,8 @@ over-length (suc n) (v ∷ news) [] = refl
 over-length (suc n) (v ∷ news) (o ∷ olds) = ap suc (over-length n news olds)
 
 -- one that is not mentioned
-over-skip : (n : ℕ) (news olds : List Property) → getD news n unmentioned ≡ unmentioned → overTo (suc n) news olds ≡ overTo n news olds
+over-skip : (n : ℕ) (news olds : List Property) → getD news n unmentioned ≡ unmentioned
+    → overTo (suc n) news olds ≡ overTo n news olds
 over-skip zero [] olds e = refl
 over-skip zero (v ∷ news) [] e = refl
 over-skip zero (v ∷ news) (o ∷ olds) e = ap (λ (x : Property). newer x o ∷ olds) e
@@ -72,7 +74,8 @@ module _ (stride : ℕ) where
   abbrev laid : List Property → List ℕ
   laid vs = joined (map (propertyBytes stride) vs)
 
-  newer-wide : (v o : Property) → ((b : List ℕ) → v ≡ says b → length b ≡ stride) → length (propertyBytes stride o) ≡ stride → length (propertyBytes stride (newer v o)) ≡ stride
+  newer-wide : (v o : Property) → ((b : List ℕ) → v ≡ says b → length b ≡ stride) → length (propertyBytes stride o) ≡ stride
+      → length (propertyBytes stride (newer v o)) ≡ stride
   newer-wide unmentioned o h k = k
   newer-wide (says b) o h k = h b refl
 
@@ -81,10 +84,12 @@ module _ (stride : ℕ) where
   over-wide (suc n) [] olds h k = k
   over-wide (suc n) (v ∷ news) [] h k = k
   over-wide (suc n) (v ∷ news) (o ∷ olds) h k =
-      λ x. ⊎-elim (λ e. rw e (newer-wide v o (λ b q. h b (inl (sym q))) (k o (inl refl)))) (over-wide n news olds (λ b i. h b (inr i)) (λ y i. k y (inr i)) x)
+      λ x. ⊎-elim (λ e. rw e (newer-wide v o (λ b q. h b (inl (sym q))) (k o (inl refl))))
+      (over-wide n news olds (λ b i. h b (inr i)) (λ y i. k y (inr i)) x)
 
   -- one that is mentioned, written over the old one
-  over-put : (n : ℕ) (head : List ℕ) (news olds : List Property) (b : List ℕ) → getD news n unmentioned ≡ says b → n < length olds → Spoken news → Wide olds
+  over-put : (n : ℕ) (head : List ℕ) (news olds : List Property) (b : List ℕ) → getD news n unmentioned ≡ says b → n < length olds
+      → Spoken news → Wide olds
       → pasted (head ++ laid (overTo n news olds)) (length head + n * stride) b ≡ head ++ laid (overTo (suc n) news olds)
   over-put n head news [] b e l h k = absurd (omega arith)
   over-put zero head [] (o ∷ olds) b e l h k = cc
@@ -107,31 +112,38 @@ module _ (stride : ℕ) where
     pub carried-gone : lifeOf r .end .0 ≡ s .life .end .0
     carried-gone =
         let l : 24 ≤ length r = omega (arith, ap length (c .is), length-append (c .front) (tailOf stride s), c .long) in
-        let g : (n : ℕ) → byteOf r (16 + n) ≡ byteOf (tailOf stride s) n = λ n. ap (λ (d : List ℕ). byteOf d (16 + n)) (c .is) ∙ getD-past (c .front) (tailOf stride s) 16 n (c .long) 0 in
+        let g : (n : ℕ) → byteOf r (16 + n) ≡ byteOf (tailOf stride s) n = λ n. ap (λ (d : List ℕ). byteOf d (16 + n)) (c .is)
+        ∙ getD-past (c .front) (tailOf stride s) 16 n (c .long) 0 in
         be-whole 4 r 20 (omega arith)
         ∙ (λ i. (((0 * 256 + g 4 i) * 256 + g 5 i) * 256 + g 6 i) * 256 + g 7 i)
         ∙ four-back (s .life .end .0) (c .gone)
 
     -- with another front it is that of a BASELINE
     pub carried-drawn : (n : ℕ) (begin end : Instant)
-        → pasted r 0 (1 ∷ 0 ∷ 0 ∷ 0 ∷ bytesOf 4 n ++ (bytesOf 4 (begin .0) ++ bytesOf 4 (end .0))) ≡ drawnRecord stride n begin end s
+        → pasted r 0 (1 ∷ 0 ∷ 0 ∷ 0 ∷ bytesOf 4 n ++ (bytesOf 4 (begin .0) ++ bytesOf 4 (end .0)))
+        ≡ drawnRecord stride n begin end s
     unfolding drawnRecord recordFor baselineOf
     carried-drawn n begin end =
         let x : List ℕ = 1 ∷ 0 ∷ 0 ∷ 0 ∷ bytesOf 4 n ++ (bytesOf 4 (begin .0) ++ bytesOf 4 (end .0)) in
         ap (λ (d : List ℕ). pasted d 0 x) (c .is)
         ∙ over-middle [] (c .front) (tailOf stride s) x (c .long)
-        ∙ ap (λ (l : List (List ℕ)). x ++ (bytesOf 4 (s .life .begin .0) ++ (bytesOf 4 (s .life .end .0) ++ (replicate 8 0 ++ joined l)))) (sym (filled-by stride (partFor stride) (λ b. refl) (s .properties)))
+        ∙ ap (λ (l : List (List ℕ)). x
+        ++ (bytesOf 4 (s .life .begin .0) ++ (bytesOf 4 (s .life .end .0) ++ (replicate 8 0 ++ joined l))))
+        (sym (filled-by stride (partFor stride) (λ b. refl) (s .properties)))
 
     -- with other bytes for some of those behind the front it says the state that these say
-    retold : (s′ : State) (head old rest new d : List ℕ) → tailOf stride s ≡ head ++ (old ++ rest) → tailOf stride s′ ≡ head ++ (new ++ rest) → length old ≡ length new
-        → s′ .properties ≡ s .properties → s′ .life .begin .0 < 4294967296 → s′ .life .end .0 < 4294967296 → d ≡ pasted r (16 + length head) new → Carries stride s′ d
+    retold : (s′ : State) (head old rest new d : List ℕ) → tailOf stride s ≡ head ++ (old ++ rest)
+        → tailOf stride s′ ≡ head ++ (new ++ rest) → length old ≡ length new
+        → s′ .properties ≡ s .properties → s′ .life .begin .0 < 4294967296 → s′ .life .end .0 < 4294967296
+        → d ≡ pasted r (16 + length head) new → Carries stride s′ d
     retold s′ head old rest new d was is long same born gone e =
         let f : (l : List ℕ) → (c .front ++ head) ++ l ≡ c .front ++ (head ++ l) = append-assoc (c .front) head in
         let n : 16 + length head ≡ length (c .front ++ head) = omega (arith, length-append (c .front) head, c .long) in
         record {
           front = c .front;
           long = c .long;
-          is = e ∙ (λ i. pasted ((c .is ∙ ap (λ (l : List ℕ). c .front ++ l) was ∙ sym (f (old ++ rest))) i) (n i) new) ∙ over-middle (c .front ++ head) old rest new long ∙ f (new ++ rest)
+          is = e ∙ (λ i. pasted ((c .is ∙ ap (λ (l : List ℕ). c .front ++ l) was ∙ sym (f (old ++ rest))) i) (n i) new)
+              ∙ over-middle (c .front ++ head) old rest new long ∙ f (new ++ rest)
               ∙ ap (λ (l : List ℕ). c .front ++ l) (sym is);
           eight = ap length same ∙ c .eight;
           sized = λ v m. c .sized v (subst (In v) same m);
@@ -141,25 +153,34 @@ module _ (stride : ℕ) where
 
     -- a life time that is given
     pub carried-born : (x : Instant) → x .0 < 4294967296 → (d : List ℕ) → d ≡ cond (isNone x) r (pasted r 16 (bytesOf 4 (x .0)))
-        → Carries stride (record { life = record { begin = newTime x (s .life .begin); end = s .life .end }; properties = s .properties }) d
+        → Carries stride
+        (record { life = record { begin = newTime x (s .life .begin); end = s .life .end }; properties = s .properties }) d
     unfolding newTime
     carried-born x low d e = go (isNone x) e
       where
-        go : (b : Bool) → d ≡ cond b r (pasted r 16 (bytesOf 4 (x .0))) → Carries stride (record { life = record { begin = cond b (s .life .begin) x; end = s .life .end }; properties = s .properties }) d
+        go : (b : Bool) → d ≡ cond b r (pasted r 16 (bytesOf 4 (x .0)))
+            → Carries stride
+            (record { life = record { begin = cond b (s .life .begin) x; end = s .life .end }; properties = s .properties }) d
         go true e = rw e c
         go false e = retold _ [] (bytesOf 4 (s .life .begin .0)) _ (bytesOf 4 (x .0)) d refl refl refl refl low (c .gone) e
 
     pub carried-ended : (x : Instant) → x .0 < 4294967296 → (d : List ℕ) → d ≡ cond (isNone x) r (pasted r 20 (bytesOf 4 (x .0)))
-        → Carries stride (record { life = record { begin = s .life .begin; end = newTime x (s .life .end) }; properties = s .properties }) d
+        → Carries stride
+        (record { life = record { begin = s .life .begin; end = newTime x (s .life .end) }; properties = s .properties }) d
     unfolding newTime
     carried-ended x low d e = go (isNone x) e
       where
-        go : (b : Bool) → d ≡ cond b r (pasted r 20 (bytesOf 4 (x .0))) → Carries stride (record { life = record { begin = s .life .begin; end = cond b (s .life .end) x }; properties = s .properties }) d
+        go : (b : Bool) → d ≡ cond b r (pasted r 20 (bytesOf 4 (x .0)))
+            → Carries stride
+            (record { life = record { begin = s .life .begin; end = cond b (s .life .end) x }; properties = s .properties }) d
         go true e = rw e c
-        go false e = retold _ (bytesOf 4 (s .life .begin .0)) (bytesOf 4 (s .life .end .0)) _ (bytesOf 4 (x .0)) d refl refl refl refl (c .born) low e
+        go false e =
+            retold _ (bytesOf 4 (s .life .begin .0)) (bytesOf 4 (s .life .end .0)) _ (bytesOf 4 (x .0)) d refl refl refl refl
+            (c .born) low e
 
   -- ---- the record of a state
-  pub carry-state : (t : Instant) (s : State) → length (s .properties) ≡ 8 → Wide (s .properties) → s .life .begin .0 < 4294967296 → s .life .end .0 < 4294967296
+  pub carry-state : (t : Instant) (s : State) → length (s .properties) ≡ 8 → Wide (s .properties) → s .life .begin .0 < 4294967296
+      → s .life .end .0 < 4294967296
       → Carries stride s (stateRecord stride t s)
   unfolding stateRecord
   carry-state t s e w b g = record {
@@ -180,29 +201,36 @@ module _ (stride : ℕ) where
     pub carry-skip : getD (d .properties) n unmentioned ≡ unmentioned → Carries stride (partly (suc n) s d) r
     carry-skip e = rw (over-skip n (d .properties) (s .properties) e) c
 
-    pub carry-put : (b : List ℕ) → getD (d .properties) n unmentioned ≡ says b → n < 8 → Spoken (d .properties) → Wide (s .properties) → length (s .properties) ≡ 8
+    pub carry-put : (b : List ℕ) → getD (d .properties) n unmentioned ≡ says b → n < 8 → Spoken (d .properties)
+        → Wide (s .properties) → length (s .properties) ≡ 8
         → (r′ : List ℕ) → r′ ≡ pasted r (32 + n * stride) b → Carries stride (partly (suc n) s d) r′
     carry-put b e l h w k r′ q =
         let mid : List ℕ = bytesOf 4 (s .life .begin .0) ++ (bytesOf 4 (s .life .end .0) ++ replicate 8 0) in
         let head = c .front ++ mid in
         let m : 32 + n * stride ≡ length head + n * stride = omega (arith, length-append (c .front) mid, c .long) in
-        let f : (vs : List Property) → head ++ laid vs ≡ c .front ++ (mid ++ laid vs) = λ vs. append-assoc (c .front) mid (laid vs) in
+        let f : (vs : List Property) → head ++ laid vs ≡ c .front ++ (mid ++ laid vs) =
+        λ vs. append-assoc (c .front) mid (laid vs) in
         record {
           front = c .front;
           long = c .long;
-          is = q ∙ (λ i. pasted ((c .is ∙ sym (f (overTo n (d .properties) (s .properties)))) i) (m i) b) ∙ over-put n head (d .properties) (s .properties) b e (omega arith) h w ∙ f (overTo (suc n) (d .properties) (s .properties));
+          is = q ∙ (λ i. pasted ((c .is ∙ sym (f (overTo n (d .properties) (s .properties)))) i) (m i) b)
+              ∙ over-put n head (d .properties) (s .properties) b e (omega arith) h w
+              ∙ f (overTo (suc n) (d .properties) (s .properties));
           eight = over-length (suc n) (d .properties) (s .properties) ∙ k;
           sized = over-wide (suc n) (d .properties) (s .properties) h w;
           born = c .born;
           gone = c .gone;
         }
 
-  pub partly-all : (s : State) (d : Slice) → length (d .properties) ≡ 8 → length (s .properties) ≡ 8 → partly 8 s d ≡ record { life = s .life; properties = over (d .properties) (s .properties) }
-  partly-all s d e f = ap (λ (l : List Property). record { life = s .life; properties = l }) (over-all 8 (d .properties) (s .properties) e f)
+  pub partly-all : (s : State) (d : Slice) → length (d .properties) ≡ 8 → length (s .properties) ≡ 8
+      → partly 8 s d ≡ record { life = s .life; properties = over (d .properties) (s .properties) }
+  partly-all s d e f =
+      ap (λ (l : List Property). record { life = s .life; properties = l }) (over-all 8 (d .properties) (s .properties) e f)
 
 -- ---- a property of a record's slice, by its first byte
 module _ (stride : ℕ) (r : List ℕ) (n : ℕ) (few : n < 8) (size : length r ≡ recordSize stride) where
-  by-mention : (b : Bool) → mentioned (propertyAt stride r n) ≡ b → getD (viewOf stride r .properties) n unmentioned ≡ cond b (says (propertyAt stride r n)) unmentioned
+  by-mention : (b : Bool) → mentioned (propertyAt stride r n) ≡ b
+      → getD (viewOf stride r .properties) n unmentioned ≡ cond b (says (propertyAt stride r n)) unmentioned
   by-mention b e = view-property stride r n few ∙ ap (λ (c : Bool). cond c (says (propertyAt stride r n)) unmentioned) e
 
   told : not (eqb (byteOf r (32 + n * stride)) 0) ≡ mentioned (propertyAt stride r n)
@@ -214,5 +242,6 @@ module _ (stride : ℕ) (r : List ℕ) (n : ℕ) (few : n < 8) (size : length r 
   pub view-skips : byteOf r (32 + n * stride) ≡ 0 → getD (viewOf stride r .properties) n unmentioned ≡ unmentioned
   view-skips e = by-mention false (sym told ∙ ap not (eq-eqb (byteOf r (32 + n * stride)) 0 e))
 
-  pub view-says : (byteOf r (32 + n * stride) ≡ 0 → ⊥) → getD (viewOf stride r .properties) n unmentioned ≡ says (propertyAt stride r n)
+  pub view-says : (byteOf r (32 + n * stride) ≡ 0 → ⊥)
+      → getD (viewOf stride r .properties) n unmentioned ≡ says (propertyAt stride r n)
   view-says e = by-mention true (sym told ∙ ap not (ne-eqb (byteOf r (32 + n * stride)) 0 e))

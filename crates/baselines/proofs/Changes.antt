@@ -44,7 +44,8 @@ bytes-records p h r m = bytes-pieces (recordSize (strideOf p)) (countOf p) (drop
 times-bounded : (stride : ℕ) (r : List ℕ) → Bytes r → (x : Instant) → In x (changesBy (viewOf stride r)) → x .0 ≤ noInstant
 unfolding changesBy viewOf
 times-bounded stride r h x =
-    pick-ind (λ l. In x l → x .0 ≤ noInstant) (counts baseline (viewOf stride r)) (λ _. among) (λ _. pick-ind (λ l. In x l → x .0 ≤ noInstant) (counts permdelta (viewOf stride r)) (λ _. first) (λ _ m. absurd m))
+    pick-ind (λ l. In x l → x .0 ≤ noInstant) (counts baseline (viewOf stride r)) (λ _. among)
+    (λ _. pick-ind (λ l. In x l → x .0 ≤ noInstant) (counts permdelta (viewOf stride r)) (λ _. first) (λ _ m. absurd m))
   where
     low : (at : ℕ) (t : Instant) → t .0 ≡ beOf 4 r at → x ≡ t → x .0 ≤ noInstant
     low at t e q = omega (arith, ap (λ i. i .0) q, e, instant-most r at h)
@@ -53,7 +54,8 @@ times-bounded stride r h x =
     first = ⊎-elim (low 8 (periodOf r .begin) refl) (λ m. absurd m)
 
     among : In x (periodOf r .begin ∷ periodOf r .end ∷ lifeOf r .end ∷ []) → x .0 ≤ noInstant
-    among = ⊎-elim (low 8 (periodOf r .begin) refl) (⊎-elim (low 12 (periodOf r .end) refl) (⊎-elim (low 20 (lifeOf r .end) refl) (λ m. absurd m)))
+    among = ⊎-elim (low 8 (periodOf r .begin) refl)
+        (⊎-elim (low 12 (periodOf r .end) refl) (⊎-elim (low 20 (lifeOf r .end) refl) (λ m. absurd m)))
 
 pub slices-bounded : (p : List ℕ) → Bytes p → Bounded (slicesOf p)
 unfolding slicesOf

@@ -52,10 +52,12 @@ module _ (p : List ℕ) where
 module _ (p output : List ℕ) where
   pub table-refused : (f : Refusal) → checkTable sides.Permanent p ≡ Refused f → derivation.Refused f ≡ derivationOf p output
   unfolding derivationOf permanentTests checkTable
-  table-refused f e = sym (check-refuses refusedDerivation (tableTests (strideOf p) sides.Permanent p) (derivingTests p output) _ f e)
+  table-refused f e =
+      sym (check-refuses refusedDerivation (tableTests (strideOf p) sides.Permanent p) (derivingTests p output) _ f e)
 
   module _ (e : checkTable sides.Permanent p ≡ Sound) where
-    left : derivationOf p output ≡ refuse refusedDerivation (derivingTests p output) (derivation.Derived (length (derivedRecords p)))
+    left : derivationOf p output ≡ refuse refusedDerivation (derivingTests p output)
+        (derivation.Derived (length (derivedRecords p)))
     unfolding derivationOf permanentTests checkTable
     left = check-passes refusedDerivation (tableTests (strideOf p) sides.Permanent p) (derivingTests p output) _ e
 

@@ -1,5 +1,5 @@
--- The derived table: what an answer with a number tells; that the table is sound, names the same feature, counts its records, and says the
--- derived baselines. Assumes nothing.
+-- The derived table: what an answer with a number tells; that the table is sound, names the same feature, counts its records, and
+-- says the derived baselines. Assumes nothing.
 use Prim.Native.Nat.{ℕ, _+_, _*_, _≤_, _<_}
 use mathlib.Core.Path.{_≡_, refl, sym, ap, _∙_}
 use mathlib.Core.List.{List, _++_, map}
@@ -22,15 +22,15 @@ use Rattle.table.specs.Arriving.{creationOf}
 use Rattle.table.specs.Deliveries.{holding}
 use Rattle.table.specs.declared.check.Sides.the-variants.{Permanent, Both}
 use Rattle.table.specs.declared.create.Creation.the-variants.{Made}
-use Rattle.table.proofs.Made.{made}
+use Rattle.table.proofs.NewTable.{made}
 use Rattle.table.proofs.Sound.{SoundTable, sound-table, table-sound}
 use Rattle.table.proofs.Stays.{Good, all-good, good-sized, within, stays}
-use Rattle.table.proofs.Kept.{Alike, same-side, same-feature, same-room, written-alike, written-count, written-records}
-use Rattle.table.proofs.Delivered.{new, new-feature, new-room, new-written, new-sound}
+use Rattle.table.proofs.SameHeader.{Alike, same-side, same-feature, same-room, written-alike, written-count, written-records}
+use Rattle.table.proofs.Deliveries.{new, new-feature, new-room, new-written, new-sound}
 use Rattle.history.specs.Derived.{twoAnchors, derivedBaselines}
 use Rattle.state.specs.Written.{nilUnknown}
 use Rattle.state.specs.Asking.{slicesOf, permanentTests}
-use Rattle.state.proofs.Placed.{tests-sound}
+use Rattle.state.proofs.PropertyPlace.{tests-sound}
 use Rattle.baselines.specs.Deriving.{derivedRecords, derivingTests, refusedDerivation, derivationOf}
 use Rattle.baselines.specs.Steps.{handedOf}
 use Rattle.baselines.specs.declared.derivation.Derivation.the-variants.{Derived}
@@ -51,10 +51,14 @@ module _ (p output : List ℕ) (n : ℕ) where
   pub derived-told : derivationOf p output ≡ Derived n → Deriving p output n
   unfolding derivationOf derivingTests permanentTests
   derived-told e =
-      let (passed, same) = passed-answer refusedDerivation (Derived n) (λ k q. true≢false cc) (permanentTests p ++ derivingTests p output) (Derived (length (derivedRecords p))) e in
+      let (passed, same) =
+      passed-answer refusedDerivation (Derived n) (λ k q. true≢false cc) (permanentTests p ++ derivingTests p output)
+      (Derived (length (derivedRecords p))) e in
       let number : length (derivedRecords p) ≡ n = cc in
       let (table, rest) = passed-split (permanentTests p) (derivingTests p output) passed in
-      let (many, short) = or-neither (ltb 256 (length (derivedRecords p))) (ltb (length output) (32 + length (joined (derivedRecords p)))) (rest .1 .1 .0) in
+      let (many, short) =
+      or-neither (ltb 256 (length (derivedRecords p))) (ltb (length output) (32 + length (joined (derivedRecords p))))
+      (rest .1 .1 .0) in
       record {
         table = tests-sound Permanent p table;
         one = rest .0;
@@ -120,14 +124,16 @@ module _ (p output : List ℕ) (n : ℕ) (d : Deriving p output n) where
 
   -- it names the same feature, counts its records, has room for them and holds them
   pub derived-feature : featureOf derived ≡ featureOf p
-  derived-feature = ap featureOf (sym is) ∙ same-feature fresh (written fresh records) alike ∙ new-feature output permanent (featureOf p) named begun
+  derived-feature = ap featureOf (sym is) ∙ same-feature fresh (written fresh records) alike
+      ∙ new-feature output permanent (featureOf p) named begun
 
   pub derived-counts : countOf derived ≡ n
   derived-counts = ap countOf (sym is) ∙ written-count fresh records (fresh-sound .headed) inside counted ∙ sym (d .number)
 
   pub derived-room : countOf derived ≤ roomOf size derived
   derived-room =
-      let same : roomOf size derived ≡ roomOf size fresh = ap (roomOf size) (sym is) ∙ same-room fresh (written fresh records) alike size in
+      let same : roomOf size derived ≡ roomOf size fresh =
+      ap (roomOf size) (sym is) ∙ same-room fresh (written fresh records) alike size in
       omega (arith, same, roomy, derived-counts, d .number)
 
   pub derived-holds : recordsOf size derived ≡ records

@@ -21,7 +21,8 @@ use Rattle.baselines.specs.Laid.{partFor, recordFor}
 two-back : (v : ℕ) → v < 65536 → (0 * 256 + v / 256 % 256) * 256 + v % 256 ≡ v
 two-back v h = omega arith
 
-pub four-back : (v : ℕ) → v < 4294967296 → (((0 * 256 + v / 256 / 256 / 256 % 256) * 256 + v / 256 / 256 % 256) * 256 + v / 256 % 256) * 256 + v % 256 ≡ v
+pub four-back : (v : ℕ) → v < 4294967296
+    → (((0 * 256 + v / 256 / 256 / 256 % 256) * 256 + v / 256 / 256 % 256) * 256 + v / 256 % 256) * 256 + v % 256 ≡ v
 four-back v h = omega arith
 
 -- a property that says bytes, as many as it has, which are a mention
@@ -80,14 +81,16 @@ module _ (stride : ℕ) where
     pub view-laid : viewOf stride (recordFor stride s) ≡ s
     unfolding recordFor viewOf
     view-laid =
-        let whole : (n at : ℕ) → at + n ≤ 32 → beOf n (recordFor stride s) at ≡ digits (byteOf (recordFor stride s)) n at = λ n at k. be-whole n (recordFor stride s) at (omega (arith, laid-length)) in
+        let whole : (n at : ℕ) → at + n ≤ 32 → beOf n (recordFor stride s) at ≡ digits (byteOf (recordFor stride s)) n at =
+        λ n at k. be-whole n (recordFor stride s) at (omega (arith, laid-length)) in
         let correction = whole 2 2 (omega arith) ∙ two-back (s .correction .0) (h .correction) in
         let sequence = whole 4 4 (omega arith) ∙ four-back (s .sequence .0) (h .sequence) in
         let begin = whole 4 8 (omega arith) ∙ four-back (s .period .begin .0) (h .begin) in
         let end = whole 4 12 (omega arith) ∙ four-back (s .period .end .0) (h .end) in
         let born = whole 4 16 (omega arith) ∙ four-back (s .life .begin .0) (h .born) in
         let gone = whole 4 20 (omega arith) ∙ four-back (s .life .end .0) (h .gone) in
-        let cancelled : eqb (cond (s .cancelled) 1 0 % 2) 1 ≡ s .cancelled = ap (λ (b : Bool). eqb (cond b 1 0 % 2) 1) (h .uncancelled) ∙ sym (h .uncancelled) in
+        let cancelled : eqb (cond (s .cancelled) 1 0 % 2) 1 ≡ s .cancelled =
+        ap (λ (b : Bool). eqb (cond b 1 0 % 2) 1) (h .uncancelled) ∙ sym (h .uncancelled) in
         let properties = ap (map propertyOf) parts-of ∙ parts-back (s .properties) (h .said) in
         λ i. record {
           kind = s .kind;

@@ -1,5 +1,5 @@
--- What the noted times of a sound table tell of its slices: the BASELINE that holds at an instant, the PERMDELTAs of an instant, and the
--- next change instant. And that the BASELINEs of a table in order stand in front. Assumes nothing.
+-- What the noted times of a sound table tell of its slices: the BASELINE that holds at an instant, the PERMDELTAs of an instant,
+-- and the next change instant. And that the BASELINEs of a table in order stand in front. Assumes nothing.
 use Prim.Native.Nat.{ℕ, zero, suc, _+_, _-_, _≤_, _<_}
 use mathlib.Core.Path.{_≡_, refl, sym, ap, _∙_, subst}
 use mathlib.Core.List.{List, [], _∷_}
@@ -36,8 +36,9 @@ use Rattle.history.specs.State.{State, applied, appliedAll}
 use Rattle.history.specs.Onward.{changesAt}
 use Rattle.history.specs.Changes.{changesBy, changeInstants, nextOf}
 use Rattle.history.proofs.Orders.{counts-kind}
-use Rattle.history.proofs.Changes.{Changing, Bounded, begin-changing, end-changing, life-changing, delta-changing, changes-from, later, later-next, later-least, walk-below}
-use Rattle.history.proofs.Kept.{kept-nowhere, kept-one, kept-behind}
+use Rattle.history.proofs.Changes.{Changing, Bounded, begin-changing, end-changing, life-changing, delta-changing, changes-from}
+use Rattle.history.proofs.Changes.{later, later-next, later-least, walk-below}
+use Rattle.history.proofs.Selection.{kept-nowhere, kept-one, kept-behind}
 use Rattle.state.specs.Asking.{slicesOf}
 use Rattle.state.proofs.Slices.{slices-length, slices-rising, slices-at, slice-at}
 use Rattle.state.proofs.Front.{kinds-rise}
@@ -62,9 +63,12 @@ module _ (p : List ℕ) (order : checkOrder p ≡ Sound) where
         let here = slices-at p n l (ordered .roomy) in
         let up = rising-drop sliceKey keyLess sameKey key-order n (slicesOf p) (slices-rising p (ordered .rising)) in
         let there : n + (j - n) ≡ j = omega tests in
-        let is : getD (drop n (slicesOf p)) (j - n) (slice j) ≡ slice j = getD-drop n (slicesOf p) (j - n) (slice j) ∙ ap (λ (i : ℕ). getD (slicesOf p) i (slice j)) there ∙ slice-at p j (slice j) k (ordered .roomy) in
+        let is : getD (drop n (slicesOf p)) (j - n) (slice j) ≡ slice j =
+        getD-drop n (slicesOf p) (j - n) (slice j) ∙ ap (λ (i : ℕ). getD (slicesOf p) i (slice j)) there
+        ∙ slice-at p j (slice j) k (ordered .roomy) in
         let m = getD-in (drop n (slicesOf p)) (j - n) (slice j) (omega (tests, length-drop n (slicesOf p), slices-length p)) in
-        kinds-rise (slice n) (drop (n + 1) (slicesOf p)) (subst (Rising sliceKey keyLess sameKey) here up) (next l) (slice j) (subst (In (slice j)) here (subst (λ s. In s (drop n (slicesOf p))) is m));
+        kinds-rise (slice n) (drop (n + 1) (slicesOf p)) (subst (Rising sliceKey keyLess sameKey) here up) (next l) (slice j)
+        (subst (In (slice j)) here (subst (λ s. In s (drop n (slicesOf p))) is m));
   }
 
 -- ---- a cancelled record gives no time
@@ -90,7 +94,8 @@ full-timeless r h =
     let (e, f) = and-both (filled 255 4 r 16) (filled 255 4 r 20) (sym (filled-join 255 4 4 r 16) ∙ d) in
     (full-none r 8 a, full-none r 12 c, full-none r 20 f)
 
-module _ (p begins ends gones : List ℕ) (front : ℕ) (sound : checkTable Permanent p ≡ Sound) (noted : Noted p begins ends gones) (fronted : Fronted p front) where
+module _ (p begins ends gones : List ℕ) (front : ℕ) (sound : checkTable Permanent p ≡ Sound) (noted : Noted p begins ends gones)
+    (fronted : Fronted p front) where
   abbrev at : ℕ → List ℕ
   at j = recordAt (recordSize (strideOf p)) j p
 
@@ -113,7 +118,8 @@ module _ (p begins ends gones : List ℕ) (front : ℕ) (sound : checkTable Perm
   unfolding ofSide
   two-kinds j h =
       let s : eqb (sideOf p) 0 ≡ true = sound-table Permanent p sound .side in
-      ⊎-elim (λ e. inl (eqb-true _ _ e)) (λ e. inr (eqb-true _ _ e)) (or-either (eqb (kindOf (at j)) baseline) (eqb (kindOf (at j)) permdelta) (rw s at (here j h .kind)))
+      ⊎-elim (λ e. inl (eqb-true _ _ e)) (λ e. inr (eqb-true _ _ e))
+      (or-either (eqb (kindOf (at j)) baseline) (eqb (kindOf (at j)) permdelta) (rw s at (here j h .kind)))
 
   -- the first are BASELINEs, those behind them PERMDELTAs
   front-kind : (j : ℕ) → j < front → kindOf (at j) ≡ baseline
@@ -142,7 +148,8 @@ module _ (p begins ends gones : List ℕ) (front : ℕ) (sound : checkTable Perm
     stands-behind j h k = rw (behind-kind j h k)
 
     -- whether a place holds, by its own record
-    stands-at : (d : Slice) (j : ℕ) → j < length slices → (j < front → lies begins ends (t .0) j ≡ false) → stands slices t (getD slices j d) ≡ false
+    stands-at : (d : Slice) (j : ℕ) → j < length slices → (j < front → lies begins ends (t .0) j ≡ false)
+        → stands slices t (getD slices j d) ≡ false
     stands-at d j h others =
         let k : j < countOf p = omega (tests, slices-length p) in
         ap (stands slices t) (slice-at p j d k roomy)
@@ -152,13 +159,15 @@ module _ (p begins ends gones : List ℕ) (front : ℕ) (sound : checkTable Perm
     pub held-told : (count place : ℕ) → HeldBy (lies begins ends (t .0)) front count place → Held p t count place
     unfolding anchor
     held-told count place held = record {
-      none = λ e. kept-nowhere (stands slices t) (slice place) slices (λ j h. stands-at (slice place) j h (λ l. held .none e .1 j l));
+      none = λ e. kept-nowhere (stands slices t) (slice place) slices
+          (λ j h. stands-at (slice place) j h (λ l. held .none e .1 j l));
       one = λ e. let (l, y, others) = held .one e in
           let k : place < countOf p = omega (tests, fronted .most) in
           let seen : getD slices place (slice place) ≡ slice place = slice-at p place (slice place) k roomy in (
             k,
             ap (only based (only opened nowhere (kept (opens t) slices)))
-                (kept-one (stands slices t) (slice place) slices place (omega (tests, slices-length p)) (ap (stands slices t) seen ∙ stands-front place l ∙ y)
+                (kept-one (stands slices t) (slice place) slices place (omega (tests, slices-length p))
+                (ap (stands slices t) seen ∙ stands-front place l ∙ y)
                 (λ j h n. stands-at (slice place) j h (λ m. others j m n)) ∙ ap (λ (s : Slice). s ∷ []) seen),
           );
     }
@@ -179,8 +188,10 @@ module _ (p begins ends gones : List ℕ) (front : ℕ) (sound : checkTable Perm
     -- the next record is applied, or passed over
     module _ (i : ℕ) (h : front ≤ i) (k : i < countOf p) where
       pub next-applied : (u : State) → getD begins i 0 ≡ t .0
-          → appliedAll u (kept (changesAt t) (drop i slices)) ≡ appliedAll (applied u (slice i)) (kept (changesAt t) (drop (i + 1) slices))
-      next-applied u e = ap (λ (l : List Slice). appliedAll u (kept (changesAt t) l)) (slices-at p i k roomy) ∙ rw (change-here i h k ∙ eq-eqb (getD begins i 0) (t .0) e)
+          → appliedAll u (kept (changesAt t) (drop i slices)) ≡ appliedAll (applied u (slice i))
+          (kept (changesAt t) (drop (i + 1) slices))
+      next-applied u e = ap (λ (l : List Slice). appliedAll u (kept (changesAt t) l)) (slices-at p i k roomy)
+          ∙ rw (change-here i h k ∙ eq-eqb (getD begins i 0) (t .0) e)
 
       pub next-passed : (getD begins i 0 ≡ t .0 → ⊥) → kept (changesAt t) (drop i slices) ≡ kept (changesAt t) (drop (i + 1) slices)
       next-passed e = ap (kept (changesAt t)) (slices-at p i k roomy) ∙ rw (change-here i h k ∙ ne-eqb (getD begins i 0) (t .0) e)
@@ -205,8 +216,16 @@ module _ (p begins ends gones : List ℕ) (front : ℕ) (sound : checkTable Perm
       let k : j < countOf p = omega (tests, slices-length p) in
       let seen : slice j ≡ d = sym (slice-at p j (slice 0) k roomy) ∙ e in
       by-test (ltb j front) (λ z. contrary (ap (changesAt t) seen ∙ y) (front-none t j (omega tests)))
-      (λ z. let here′ : getD begins j 0 ≡ t .0 = eqb-true _ _ (sym (change-here t late j (omega tests) k) ∙ ap (changesAt t) seen ∙ y) in
-      by-test (isNone (d .life .begin)) (λ n. n) (λ g. absurd (omega (tests, noted j k .0, openings .most j _ (omega tests) k (ap (λ (s : Slice). isNone (s .life .begin)) seen ∙ g, refl)))))
+      (λ z. let here′ : getD begins j 0 ≡ t .0 =
+      eqb-true _ _ (sym (change-here t late j (omega tests) k) ∙ ap (changesAt t) seen ∙ y) in
+      by-test (isNone (d .life .begin)) (λ n. n)
+      (λ g. absurd
+      (omega (
+        tests,
+        noted j k .0,
+        openings .most j _ (omega tests) k
+            (ap (λ (s : Slice). isNone (s .life .begin)) seen ∙ g, refl),
+      ))))
 
   -- ---- the next change instant
   abbrev instant : ℕ → Instant
@@ -219,7 +238,9 @@ module _ (p begins ends gones : List ℕ) (front : ℕ) (sound : checkTable Perm
   -- a record gives no time, or counts as what it is
   timeless-or : (j : ℕ) → j < countOf p → Timeless (at j) ⊎ ((kind : ℕ) → kindOf (at j) ≡ kind → counts kind (slice j) ≡ true)
   unfolding counts viewOf
-  timeless-or j h = ⊎-elim (λ x. inl (full-timeless (at j) (x .timeless))) (λ x. inr (λ kind e. rw (x .uncancelled) (rw (eq-eqb (kindOf (at j)) kind e)))) (here j h .rest)
+  timeless-or j h =
+      ⊎-elim (λ x. inl (full-timeless (at j) (x .timeless)))
+      (λ x. inr (λ kind e. rw (x .uncancelled) (rw (eq-eqb (kindOf (at j)) kind e)))) (here j h .rest)
 
   -- each begin is none or a change instant, and so are the end and the life end in front
   none-of : (n m : ℕ) → n ≡ m → m ≡ noInstant → Changing slices (instant n)
@@ -234,7 +255,8 @@ module _ (p begins ends gones : List ℕ) (front : ℕ) (sound : checkTable Perm
       let e = noted j h .0 in
       ⊎-elim (λ x. none-of _ _ e (x .0))
       (λ c. one-of _ (periodOf (at j) .begin) e
-      (⊎-elim (λ k. begin-changing slices (slice j) (in-slices j h) (c baseline k)) (λ k. delta-changing slices (slice j) (in-slices j h) (c permdelta k)) (two-kinds j h)))
+      (⊎-elim (λ k. begin-changing slices (slice j) (in-slices j h) (c baseline k))
+      (λ k. delta-changing slices (slice j) (in-slices j h) (c permdelta k)) (two-kinds j h)))
       (timeless-or j h)
 
   module _ (j : ℕ) (h : j < front) where
@@ -245,17 +267,22 @@ module _ (p begins ends gones : List ℕ) (front : ℕ) (sound : checkTable Perm
     unfolding viewOf
     end-told =
         let e = noted j within .1 in
-        ⊎-elim (λ x. none-of _ _ e (x .1)) (λ c. one-of _ (periodOf (at j) .end) e (end-changing slices (slice j) (in-slices j within) (c baseline (front-kind j h)))) (timeless-or j within)
+        ⊎-elim (λ x. none-of _ _ e (x .1))
+        (λ c. one-of _ (periodOf (at j) .end) e (end-changing slices (slice j) (in-slices j within) (c baseline (front-kind j h))))
+        (timeless-or j within)
 
     gone-told : Changing slices (instant (getD gones j 0))
     unfolding viewOf
     gone-told =
         let e = noted j within .2 in
-        ⊎-elim (λ x. none-of _ _ e (x .2)) (λ c. one-of _ (lifeOf (at j) .end) e (life-changing slices (slice j) (in-slices j within) (c baseline (front-kind j h)))) (timeless-or j within)
+        ⊎-elim (λ x. none-of _ _ e (x .2))
+        (λ c. one-of _ (lifeOf (at j) .end) e (life-changing slices (slice j) (in-slices j within) (c baseline (front-kind j h))))
+        (timeless-or j within)
 
   -- and each change instant is a noted time
   abbrev Told : ℕ → Type 0
-  Told n = ((j : ℕ) × (j < countOf p) × (getD begins j 0 ≡ n)) ⊎ (((j : ℕ) × (j < front) × (getD ends j 0 ≡ n)) ⊎ ((j : ℕ) × (j < front) × (getD gones j 0 ≡ n)))
+  Told n = ((j : ℕ) × (j < countOf p) × (getD begins j 0 ≡ n))
+      ⊎ (((j : ℕ) × (j < front) × (getD ends j 0 ≡ n)) ⊎ ((j : ℕ) × (j < front) × (getD gones j 0 ≡ n)))
 
   told-by : (j : ℕ) → j < countOf p → (x : Instant) → In x (changesBy (slice j)) → Told (x .0)
   unfolding changesBy viewOf
@@ -264,8 +291,11 @@ module _ (p begins ends gones : List ℕ) (front : ℕ) (sound : checkTable Perm
       let begin : (x ≡ periodOf (at j) .begin) → Told (x .0) = λ q. inl (j, h, b ∙ sym (ap (λ i. i .0) q)) in
       pick-ind (λ l. In x l → Told (x .0)) (counts baseline (slice j))
       (λ y. let k : kindOf (at j) ≡ baseline = counts-kind baseline (slice j) y in
-      let f : j < front = by-test (ltb j front) (λ z. omega tests) (λ z. absurd (omega (tests, fronted .behind j (omega tests) h))) in
-      ⊎-elim begin (⊎-elim (λ q. inr (inl (j, f, e ∙ sym (ap (λ i. i .0) q)))) (⊎-elim (λ q. inr (inr (j, f, g ∙ sym (ap (λ i. i .0) q)))) (λ m. absurd m))))
+      let f : j < front =
+      by-test (ltb j front) (λ z. omega tests) (λ z. absurd (omega (tests, fronted .behind j (omega tests) h))) in
+      ⊎-elim begin
+      (⊎-elim (λ q. inr (inl (j, f, e ∙ sym (ap (λ i. i .0) q))))
+      (⊎-elim (λ q. inr (inr (j, f, g ∙ sym (ap (λ i. i .0) q)))) (λ m. absurd m))))
       (λ _. pick-ind (λ l. In x l → Told (x .0)) (counts permdelta (slice j)) (λ _. ⊎-elim begin (λ m. absurd m)) (λ _ m. absurd m))
 
   change-told : (x : Instant) → In x (changeInstants slices) → Told (x .0)
@@ -276,7 +306,8 @@ module _ (p begins ends gones : List ℕ) (front : ℕ) (sound : checkTable Perm
       told-by j l x (subst (λ s. In x (changesBy s)) (sym e ∙ slice-at p j (slice 0) l roomy) k)
 
   -- THE NEXT CHANGE INSTANT is the soonest of the noted times
-  pub since-told : (from : Instant) → Bounded slices → (a b r : ℕ) → Least (from .0) noInstant begins (countOf p) a → Least (from .0) a ends front b
+  pub since-told : (from : Instant) → Bounded slices → (a b r : ℕ) → Least (from .0) noInstant begins (countOf p) a
+      → Least (from .0) a ends front b
       → Least (from .0) b gones front r → instant r ≡ changeSince from p
   unfolding changeSince
   since-told from low a b r first second third =
@@ -284,12 +315,17 @@ module _ (p begins ends gones : List ℕ) (front : ℕ) (sound : checkTable Perm
       let bound : n .0 ≤ noInstant = walk-below slices from low in
       let far : (x : ℕ) → Changing slices (instant x) → from .0 ≤ x → n .0 ≤ x =
       λ x c k. ⊎-elim (λ e. omega (tests, ap (λ i. i .0) e)) (λ m. later-least slices from (instant x) m k) c in
-      let u : n .0 ≤ a = ⊎-elim (λ e. omega tests) (λ (j, h, e, k). omega (tests, far (getD begins j 0) (begin-told j h) (omega tests))) (first .one) in
-      let v : n .0 ≤ b = ⊎-elim (λ e. omega tests) (λ (j, h, e, k). omega (tests, far (getD ends j 0) (end-told j h) (omega tests))) (second .one) in
-      let w : n .0 ≤ r = ⊎-elim (λ e. omega tests) (λ (j, h, e, k). omega (tests, far (getD gones j 0) (gone-told j h) (omega tests))) (third .one) in
+      let u : n .0 ≤ a =
+      ⊎-elim (λ e. omega tests) (λ (j, h, e, k). omega (tests, far (getD begins j 0) (begin-told j h) (omega tests)))
+      (first .one) in
+      let v : n .0 ≤ b =
+      ⊎-elim (λ e. omega tests) (λ (j, h, e, k). omega (tests, far (getD ends j 0) (end-told j h) (omega tests))) (second .one) in
+      let w : n .0 ≤ r =
+      ⊎-elim (λ e. omega tests) (λ (j, h, e, k). omega (tests, far (getD gones j 0) (gone-told j h) (omega tests))) (third .one) in
       let x : r ≤ a = omega (tests, second .most, third .most) in
       let y : r ≤ n .0 = ⊎-elim (λ e. omega (tests, first .most, ap (λ i. i .0) e))
       (λ (m, k). ⊎-elim (λ (j, h, e). omega (tests, first .least j h (omega tests)))
-      (⊎-elim (λ (j, h, e). omega (tests, third .most, second .least j h (omega tests))) (λ (j, h, e). omega (tests, third .least j h (omega tests))))
+      (⊎-elim (λ (j, h, e). omega (tests, third .most, second .least j h (omega tests)))
+      (λ (j, h, e). omega (tests, third .least j h (omega tests))))
       (change-told n m)) (later-next slices from) in
       instant-of (instant r) n (omega tests)

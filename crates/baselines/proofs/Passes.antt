@@ -19,7 +19,8 @@ use Rattle.octets.specs.Bytes.{filled, Bytes}
 use Rattle.octets.specs.Writing.{bytesOf}
 use Rattle.numbers.specs.declared.Instant.{Instant}
 use Rattle.property.specs.Eight.{breaks, mentioned, eight}
-use Rattle.slice.specs.Record.{baseline, permdelta, permanent, ofSide, partsOf, Property, unmentioned, says, propertyOf, Slice, viewOf}
+use Rattle.slice.specs.Record.{baseline, permdelta, permanent, ofSide, partsOf, Property, unmentioned, says, propertyOf, Slice}
+use Rattle.slice.specs.Record.{viewOf}
 use Rattle.slice.specs.Check.{checkRecord}
 use Rattle.slice.specs.Rules.{timesOf, timesRight, contentRight}
 use Rattle.slice.specs.declared.check.Checked.the-variants.{Sound}
@@ -37,11 +38,11 @@ use Rattle.history.specs.Derived.{Stretch, stretches, filledIn, baselineOf, der
 use Rattle.history.proofs.Orders.{counts-kind}
 use Rattle.history.proofs.Line.{known-line, line-within}
 use Rattle.history.proofs.ReadBack.{stretched, numbered-in}
-use Rattle.history.proofs.Drawn.{line-begun, Born, drawn-times, drawn-content}
+use Rattle.history.proofs.DerivedRules.{line-begun, Born, drawn-times, drawn-content}
 use Rattle.state.specs.Written.{nilUnknown}
 use Rattle.state.specs.Asking.{slicesOf, permanentTests}
 use Rattle.state.proofs.Slices.{said, slice-view}
-use Rattle.state.proofs.Placed.{tests-sound}
+use Rattle.state.proofs.PropertyPlace.{tests-sound}
 use Rattle.baselines.specs.Laid.{partFor, recordFor}
 use Rattle.baselines.specs.Deriving.{derivedRecords, derivingTests, refusedDerivation, derivationOf}
 use Rattle.baselines.specs.declared.derivation.Derivation.{Derivation}
@@ -73,11 +74,13 @@ module _ (p : List ℕ) (bytes : Bytes p) (sound : checkTable Permanent p ≡ So
   kind-times : (kind : ℕ) (d : Slice) → In d slices → counts kind d ≡ true → timesOf kind (d .period) (d .life) ≡ true
   unfolding timesRight
   kind-times kind d m c =
-      ap (λ n. timesOf n (d .period) (d .life)) (sym (counts-kind kind d c)) ∙ counted-right p bytes sound d m (uncancelled kind d c)
+      ap (λ n. timesOf n (d .period) (d .life)) (sym (counts-kind kind d c))
+      ∙ counted-right p bytes sound d m (uncancelled kind d c)
 
   born : Born slices
   born d m (inl c) = baseline-times (d .period) (d .life) (kind-times baseline d m c) .lifeBegin
-  born d m (inr c) = ⊎-elim inl (λ e. inr (omega (arith, e))) (permdelta-times (d .period) (d .life) (kind-times permdelta d m c) .lifeBegin)
+  born d m (inr c) =
+      ⊎-elim inl (λ e. inr (omega (arith, e))) (permdelta-times (d .period) (d .life) (kind-times permdelta d m c) .lifeBegin)
 
   -- a property of one that counts keeps the layout
   slice-whole : (d : Slice) → In d slices → d .cancelled ≡ false → (b : List ℕ) → In (says b) (d .properties) → breaks b ≡ false
@@ -86,16 +89,19 @@ module _ (p : List ℕ) (bytes : Bytes p) (sound : checkTable Permanent p ≡ So
       let (r, n, e) = slice-view p d m in
       let (x, i, q) = map-in propertyOf (partsOf (strideOf p) r) (says b) (subst (λ s. In (says b) (s .properties)) e k) in
       ⊎-elim (λ y. contrary (ap (λ s. s .cancelled) e ∙ y .cancelled) c)
-      (λ y. ap breaks (said (mentioned x) b x q) ∙ any-none breaks (partsOf (strideOf p) r) (y .properties) x i) (sound-in Permanent p sound r n .rest)
+      (λ y. ap breaks (said (mentioned x) b x q) ∙ any-none breaks (partsOf (strideOf p) r) (y .properties) x i)
+      (sound-in Permanent p sound r n .rest)
 
-  state-whole : (t : Instant) (s : State) → permanentAt t slices ≡ known s → (b : List ℕ) → In (says b) (s .properties) → breaks b ≡ false
+  state-whole : (t : Instant) (s : State) → permanentAt t slices ≡ known s → (b : List ℕ) → In (says b) (s .properties)
+      → breaks b ≡ false
   state-whole t s e b m =
       let (a, ds, l, q) = known-line t slices s e in
       let (d, n, k) = line-within a ds (says b) (subst (λ u. In (says b) (u .properties)) q m) in
       let (i, c, _) = line-begun t slices d (subst (λ l. In d l) (sym l) n) in
       slice-whole d i (⊎-elim (uncancelled baseline d) (uncancelled permdelta d) c) b k
 
-  filled-whole : (v : Property) → ((b : List ℕ) → v ≡ says b → breaks b ≡ false) → breaks (partFor (strideOf p) (filledIn unknown v)) ≡ false
+  filled-whole : (v : Property) → ((b : List ℕ) → v ≡ says b → breaks b ≡ false)
+      → breaks (partFor (strideOf p) (filledIn unknown v)) ≡ false
   unfolding eight
   filled-whole unmentioned h = refl
   filled-whole (says b) h = h b refl
@@ -107,7 +113,10 @@ module _ (p : List ℕ) (bytes : Bytes p) (sound : checkTable Permanent p ≡ So
     parts-whole = none-any breaks (map (partFor (strideOf p)) (map (filledIn unknown) (s .state .properties))) (λ l i.
         let (v, j, e) = map-in (partFor (strideOf p)) (map (filledIn unknown) (s .state .properties)) l i in
         let (w, k, q) = map-in (filledIn unknown) (s .state .properties) v j in
-        rw (e, q) (filled-whole w (λ b z. state-whole (s .period .begin) (s .state) (stretched slices (changeInstants slices) s m .has) b (subst (λ y. In y (s .state .properties)) z k))))
+        rw (e, q)
+        (filled-whole w
+        (λ b z. state-whole (s .period .begin) (s .state) (stretched slices (changeInstants slices) s m .has) b
+        (subst (λ y. In y (s .state .properties)) z k))))
 
     drawn-good : n < 4294967296 → Good (strideOf p) permanent (recordFor (strideOf p) (baselineOf unknown n s))
     unfolding recordFor baselineOf ofSide filled
@@ -130,9 +139,11 @@ module _ (p : List ℕ) (bytes : Bytes p) (sound : checkTable Permanent p ≡ So
         })
 
   -- the check does not look at the sequence number
-  record-round : (n : ℕ) (s : Stretch) → recordFor (strideOf p) (baselineOf unknown n s) ≡ recordFor (strideOf p) (baselineOf unknown (n % 4294967296) s)
+  record-round : (n : ℕ) (s : Stretch)
+      → recordFor (strideOf p) (baselineOf unknown n s) ≡ recordFor (strideOf p) (baselineOf unknown (n % 4294967296) s)
   unfolding recordFor baselineOf
-  record-round n s = let r = recordFor (strideOf p) (baselineOf unknown n s) in ap (λ (w : List ℕ). take 4 r ++ (w ++ drop 8 r)) (bytes-round n)
+  record-round n s = let r = recordFor (strideOf p) (baselineOf unknown n s) in
+      ap (λ (w : List ℕ). take 4 r ++ (w ++ drop 8 r)) (bytes-round n)
 
   -- EACH RECORD PASSES
   pub derived-passes : (r : List ℕ) → In r (derivedRecords p) → checkRecord (strideOf p) permanent r ≡ Sound
@@ -148,9 +159,11 @@ module _ (p : List ℕ) (bytes : Bytes p) (sound : checkTable Permanent p ≡ So
 
 -- ---- the answer
 -- tests of other numbers pass where one behind them is the first to fail
-first-past : (n : ℕ) (xs ys : List Test) → any (λ x. eqb (x .number) n) xs ≡ false → FirstFails n (xs ++ ys) → Passed xs × FirstFails n ys
+first-past : (n : ℕ) (xs ys : List Test) → any (λ x. eqb (x .number) n) xs ≡ false → FirstFails n (xs ++ ys)
+    → Passed xs × FirstFails n ys
 first-past n [] ys h f = (tt, f)
-first-past n (x ∷ xs) ys h (inl (y, e)) = contrary (eq-eqb (x .number) n e) (or-neither (eqb (x .number) n) (any (λ x. eqb (x .number) n) xs) h .0)
+first-past n (x ∷ xs) ys h (inl (y, e)) =
+    contrary (eq-eqb (x .number) n e) (or-neither (eqb (x .number) n) (any (λ x. eqb (x .number) n) xs) h .0)
 first-past n (x ∷ xs) ys h (inr (y, f)) =
     let (a, b) = first-past n xs ys (or-neither (eqb (x .number) n) (any (λ x. eqb (x .number) n) xs) h .1) f in
     ((y, a), b)
@@ -164,7 +177,9 @@ pub never-24 : (p output : List ℕ) → Bytes p → derivationOf p output ≡ r
 unfolding derivationOf permanentTests tableTests derivingTests
 never-24 p output bytes e =
     let n = length (derivedRecords p) in
-    let failed = given-number refusedDerivation (Derived n) (λ k q. Option·none-ne-some k (sym (ap numberIn q))) (λ k m q. Option·some-injective k m (ap numberIn q)) 24 (permanentTests p ++ derivingTests p output) e in
+    let failed =
+    given-number refusedDerivation (Derived n) (λ k q. Option·none-ne-some k (sym (ap numberIn q)))
+    (λ k m q. Option·some-injective k m (ap numberIn q)) 24 (permanentTests p ++ derivingTests p output) e in
     let (table, rest) = first-past 24 (permanentTests p) (derivingTests p output) refl failed in
     go (tests-sound Permanent p table) rest
   where

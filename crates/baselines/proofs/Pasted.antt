@@ -43,6 +43,8 @@ filled-by stride write own (says b ∷ vs) = rw (own b, filled-by stride write o
 -- bytes in the middle, written over
 pub over-middle : (a b c r : List ℕ) → length b ≡ length r → pasted (a ++ (b ++ c)) (length a) r ≡ a ++ (r ++ c)
 over-middle a b c r e =
-    let n : length (a ++ (b ++ c)) ≡ length a + (length b + length c) = length-append a (b ++ c) ∙ ap (λ (k : ℕ). length a + k) (length-append b c) in
+    let n : length (a ++ (b ++ c)) ≡ length a + (length b + length c) =
+    length-append a (b ++ c) ∙ ap (λ (k : ℕ). length a + k) (length-append b c) in
     pasted-whole (a ++ (b ++ c)) r (length a) (omega arith)
-    ∙ (λ i. take-at a (b ++ c) (length a) refl i ++ (r ++ (drop-past a (b ++ c) (length a) (length r) refl ∙ drop-at b c (length r) e) i))
+    ∙ (λ i. take-at a (b ++ c) (length a) refl i
+    ++ (r ++ (drop-past a (b ++ c) (length a) (length r) refl ∙ drop-at b c (length r) e) i))

@@ -44,11 +44,13 @@ module _ (p : List ℕ) (bytes : Bytes p) (sound : checkTable Permanent p ≡ So
   standing = permanentAt t slices
 
   -- ---- a state that is asked for
-  state-wide : (s : State) → standing ≡ known s → (v : Property) → In v (s .properties) → length (propertyBytes (strideOf p) v) ≡ strideOf p
+  state-wide : (s : State) → standing ≡ known s → (v : Property) → In v (s .properties)
+      → length (propertyBytes (strideOf p) v) ≡ strideOf p
   state-wide s e unmentioned m = refl
   state-wide s e (says b) m = state-said p bytes sound t s e b m .0
 
-  pub asked-shows : (o : Outcome) (buffer last : List ℕ) → o ≡ outcomeOf standing → last ≡ afterState o p t buffer → Shows (strideOf p) standing last
+  pub asked-shows : (o : Outcome) (buffer last : List ℕ) → o ≡ outcomeOf standing → last ≡ afterState o p t buffer
+      → Shows (strideOf p) standing last
   asked-shows o buffer last q f s e =
       let life = state-life p bytes sound t s e in
       let r = f ∙ (λ i. buffered ((q ∙ ap outcomeOf e) i) (strideOf p) t (e i) buffer) in
@@ -60,11 +62,13 @@ module _ (p : List ℕ) (bytes : Bytes p) (sound : checkTable Permanent p ≡ So
     outcome-left true = refl
     outcome-left false = refl
 
-    pub left-told : (o : Outcome) → o ≡ cond (given (lifeOf r .end) && atMost (lifeOf r .end) t) (refusedOutcome 22) Written → o ≡ outcomeOf standing
+    pub left-told : (o : Outcome) → o ≡ cond (given (lifeOf r .end) && atMost (lifeOf r .end) t) (refusedOutcome 22) Written
+        → o ≡ outcomeOf standing
     unfolding unlessWithdrawn withdrawn
     left-told o q =
         let e : lifeOf r .end ≡ s .life .end = instant-of (lifeOf r .end) (s .life .end) (carried-gone (strideOf p) s r c) in
-        q ∙ (λ i. cond (given (e i) && atMost (e i) t) (refusedOutcome 22) Written) ∙ outcome-left (withdrawn t s) ∙ ap outcomeOf (sym own)
+        q ∙ (λ i. cond (given (e i) && atMost (e i) t) (refusedOutcome 22) Written) ∙ outcome-left (withdrawn t s)
+        ∙ ap outcomeOf (sym own)
 
     pub left-shows : Shows (strideOf p) standing r
     unfolding unlessWithdrawn
@@ -82,11 +86,13 @@ module _ (p : List ℕ) (bytes : Bytes p) (sound : checkTable Permanent p ≡ So
       → ((d : Slice) → In d slices → changesAt t d ≡ true → isNone (d .life .begin) ≡ true) → Went r
   went-open late r before none quiet =
       ⊎-elim (λ x. absurd (true≢false (x .0)))
-      (λ (u, l, between, left, bare). let (s, k, c) = left in (s, c, on-open slices up u t l late between (bare refl) none quiet s k))
+      (λ (u, l, between, left, bare). let (s, k, c) = left in
+      (s, c, on-open slices up u t l late between (bare refl) none quiet s k))
       before
 
   -- ---- a BASELINE alone holds
-  module _ (i : ℕ) (few : i < countOf p) (a : anchor t slices ≡ based (viewOf (strideOf p) (recordAt (recordSize (strideOf p)) i p))) where
+  module _ (i : ℕ) (few : i < countOf p)
+      (a : anchor t slices ≡ based (viewOf (strideOf p) (recordAt (recordSize (strideOf p)) i p))) where
     abbrev base : List ℕ
     base = recordAt (recordSize (strideOf p)) i p
 
@@ -100,7 +106,8 @@ module _ (p : List ℕ) (bytes : Bytes p) (sound : checkTable Permanent p ≡ So
     pub base-begun : b .period .begin .0 ≤ t .0
     unfolding stands holds atMost
     base-begun =
-        let (c, y) = and-both (counts baseline b) (atMost (b .period .begin) t && before t (until slices b)) (anchor-held slices t b a .1) in
+        let (c, y) =
+        and-both (counts baseline b) (atMost (b .period .begin) t && before t (until slices b)) (anchor-held slices t b a .1) in
         let (l, r) = and-both (atMost (b .period .begin) t) (before t (until slices b)) y in
         omega (tests, l)
 
@@ -114,7 +121,9 @@ module _ (p : List ℕ) (bytes : Bytes p) (sound : checkTable Permanent p ≡ So
     -- it has begun before: the state goes on from that of the change instant before
     module _ (late : t .0 < noInstant) (began : b .period .begin .0 < t .0) where
       not-first : NoneBefore slices t → ⊥
-      not-first n = ⊎-elim (λ e. omega (tests, ap (λ x. x .0) e)) (λ m. omega (tests, n (b .period .begin) m)) (begin-changing slices b (there .0) (there .1))
+      not-first n =
+          ⊎-elim (λ e. omega (tests, ap (λ x. x .0) e)) (λ m. omega (tests, n (b .period .begin) m))
+          (begin-changing slices b (there .0) (there .1))
 
       pub went-on : (free : Bool) (r : List ℕ) → Before p t true free r → Went r
       went-on free r = ⊎-elim (λ x. absurd (true≢false (x .0)))
@@ -122,4 +131,5 @@ module _ (p : List ℕ) (bytes : Bytes p) (sound : checkTable Permanent p ≡ So
 
       pub stayed-withdrawn : (free : Bool) (r : List ℕ) → Before p t false free r → standing ≡ refuses 22
       stayed-withdrawn free r = ⊎-elim (λ x. absurd (not-first (x .1)))
-          (λ (u, l, between, left, bare). let (n, k, one) = left in on-refused slices up u t l late between b a began (timely p bytes sound) n k one)
+          (λ (u, l, between, left, bare). let (n, k, one) = left in
+          on-refused slices up u t l late between b a began (timely p bytes sound) n k one)

@@ -1,5 +1,5 @@
--- Derived baselines, read back from their bytes: the derived table answers the same record wherever the original answered one, and 20
--- wherever it did not; the original answers 21 nowhere; and deriving again gives the same table (demand 2). Assumes nothing.
+-- Derived baselines, read back from their bytes: the derived table answers the same record wherever the original answered one, and
+-- 20 wherever it did not; the original answers 21 nowhere; and deriving again gives the same table (demand 2). Assumes nothing.
 use Prim.Native.Nat.{ℕ, _<_}
 use mathlib.Core.Path.{_≡_, refl, sym, ap, _∙_}
 use mathlib.Core.List.{List, map}
@@ -35,10 +35,12 @@ use Rattle.baselines.proofs.Changes.{slices-bounded}
 use Rattle.baselines.proofs.Pasted.{filled-by}
 use Rattle.baselines.proofs.Right.{timely}
 use Rattle.baselines.proofs.Standings.{told-refused, told-written}
-use Rattle.baselines.proofs.DerivedTable.{Deriving, derived-told, told-derived, derived, derived-sound, derived-feature, derived-slices}
+use Rattle.baselines.proofs.DerivedTable.{Deriving, derived-told, told-derived, derived, derived-sound, derived-feature}
+use Rattle.baselines.proofs.DerivedTable.{derived-slices}
 
 -- a state as it is written has the record of the state
-record-back : (stride : ℕ) (t : Instant) (s : State) → stateRecord stride t (asWritten (nilUnknown stride) s) ≡ stateRecord stride t s
+record-back : (stride : ℕ) (t : Instant) (s : State)
+    → stateRecord stride t (asWritten (nilUnknown stride) s) ≡ stateRecord stride t s
 unfolding stateRecord asWritten
 record-back stride t s = rw (filled-by stride (propertyBytes stride) (λ b. refl) (s .properties))
 
@@ -47,7 +49,8 @@ unfolding isNone
 below t h = ne-eqb (t .0) noInstant (λ e. absurd (omega arith))
 
 -- what a sound table answers for the state at an instant, into a record that fits
-answers : (q : List ℕ) → checkTable Permanent q ≡ Sound → (t : Instant) → t .0 < noInstant → (buffer : List ℕ) → length buffer ≡ recordSize (strideOf q)
+answers : (q : List ℕ) → checkTable Permanent q ≡ Sound → (t : Instant) → t .0 < noInstant → (buffer : List ℕ)
+    → length buffer ≡ recordSize (strideOf q)
     → permanentStateOf q t buffer ≡ outcomeOf (permanentAt t (slicesOf q))
 answers q e t h buffer l = sym (left-asked q t buffer (permanentAt t (slicesOf q)) (below t h) l ∙ state-left q t buffer e)
 
@@ -71,16 +74,19 @@ module _ (p output : List ℕ) (n : ℕ) (bytes : Bytes p) (e : derivationOf p o
     module _ (buffer : List ℕ) (l : length buffer ≡ recordSize (strideOf p)) where
       -- the same record wherever there was one
       pub back-written : permanentStateOf p t buffer ≡ outcome.Written
-          → (permanentStateOf table t buffer ≡ outcome.Written) × (afterState outcome.Written table t buffer ≡ afterState outcome.Written p t buffer)
+          → (permanentStateOf table t buffer ≡ outcome.Written)
+          × (afterState outcome.Written table t buffer ≡ afterState outcome.Written p t buffer)
       back-written w =
           let (s, k) = told-written (permanentAt t (slicesOf p)) (sym (answers p (d .table) t h buffer l) ∙ w) in
           let same : permanentAt t (slicesOf table) ≡ known (asWritten unknown s) = back ∙ ap (readBack unknown) k in (
             answers table right t h buffer l ∙ ap outcomeOf same,
-            ap (λ (v : Standing). recordOf (strideOf p) t v buffer) same ∙ record-back (strideOf p) t s ∙ sym (ap (λ (v : Standing). recordOf (strideOf p) t v buffer) k),
+            ap (λ (v : Standing). recordOf (strideOf p) t v buffer) same ∙ record-back (strideOf p) t s
+                ∙ sym (ap (λ (v : Standing). recordOf (strideOf p) t v buffer) k),
           )
 
       -- and 20 elsewhere
-      pub back-refused : (f : Refusal) → permanentStateOf p t buffer ≡ outcome.Refused f → permanentStateOf table t buffer ≡ refusedOutcome 20
+      pub back-refused : (f : Refusal) → permanentStateOf p t buffer ≡ outcome.Refused f
+          → permanentStateOf table t buffer ≡ refusedOutcome 20
       back-refused f w =
           let k = told-refused (permanentAt t (slicesOf p)) f (sym (answers p (d .table) t h buffer l) ∙ w) in
           answers table right t h buffer l ∙ ap outcomeOf (back ∙ ap (readBack unknown) k)
@@ -88,7 +94,8 @@ module _ (p output : List ℕ) (n : ℕ) (bytes : Bytes p) (e : derivationOf p o
       -- 21 nowhere
       pub never-two : permanentStateOf p t buffer ≡ refusedOutcome 21 → ⊥
       never-two w =
-          let k = told-refused (permanentAt t (slicesOf p)) (record { number = 21 }) (sym (answers p (d .table) t h buffer l) ∙ w) in
+          let k = told-refused (permanentAt t (slicesOf p)) (record { number = 21 })
+          (sym (answers p (d .table) t h buffer l) ∙ w) in
           contrary (ap hasTwo k) (no-two (slicesOf p) (timely p bytes (d .table)) (d .one) t h)
 
   -- ---- deriving again
@@ -103,7 +110,9 @@ module _ (p output : List ℕ) (n : ℕ) (bytes : Bytes p) (e : derivationOf p o
   pub again : (other : List ℕ) → length other ≡ length output
       → (derivationOf table other ≡ Derived n) × (afterDeriving (Derived n) table other ≡ afterDeriving (Derived n) p other)
   again other l =
-      let two : twoAnchors (slicesOf table) ≡ false = ap twoAnchors (derived-slices p output n d bytes) ∙ derived-two unknown (slicesOf p) (timely p bytes (d .table)) (slices-bounded p bytes) in (
+      let two : twoAnchors (slicesOf table) ≡ false =
+      ap twoAnchors (derived-slices p output n d bytes)
+      ∙ derived-two unknown (slicesOf p) (timely p bytes (d .table)) (slices-bounded p bytes) in (
         told-derived table other n (record {
           table = right;
           one = two;

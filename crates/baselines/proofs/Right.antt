@@ -1,5 +1,5 @@
--- The permanent states of a sound table, and the BASELINEs that are derived of them, are such as records can hold; the records say those
--- BASELINEs, and rise. Assumes nothing.
+-- The permanent states of a sound table, and the BASELINEs that are derived of them, are such as records can hold; the records say
+-- those BASELINEs, and rise. Assumes nothing.
 use Prim.Native.Nat.{ℕ, suc, _+_, _≤_, _<_}
 use mathlib.Core.Path.{_≡_, refl, sym, ap, _∙_, subst}
 use mathlib.Core.List.{List, [], _∷_, map}
@@ -20,7 +20,8 @@ use Rattle.numbers.specs.Numbers.{noInstant, lowerSequence}
 use Rattle.numbers.specs.declared.Instant.{Instant}
 use Rattle.numbers.proofs.Orders.{instant-of}
 use Rattle.property.specs.Eight.{mentioned}
-use Rattle.slice.specs.Record.{baseline, permdelta, partsOf, keyLess, sameKey, Property, unmentioned, says, propertyOf, Slice, viewOf}
+use Rattle.slice.specs.Record.{baseline, permdelta, partsOf, keyLess, sameKey, Property, unmentioned, says, propertyOf, Slice}
+use Rattle.slice.specs.Record.{viewOf}
 use Rattle.slice.specs.declared.record.Life.{Life}
 use Rattle.slice.specs.Rules.{timesOf, timesRight}
 use Rattle.slice.specs.declared.check.Checked.the-variants.{Sound}
@@ -81,14 +82,17 @@ module _ (p : List ℕ) (bytes : Bytes p) (sound : checkTable Permanent p ≡ So
   unfolding viewOf
   counted-right d m c =
       let (r, n, e) = slice-view p d m in
-      ⊎-elim (λ x. contrary (ap (λ s. s .cancelled) e ∙ x .cancelled) c) (λ k. ap timesRight e ∙ k .times) (sound-in Permanent p sound r n .rest)
+      ⊎-elim (λ x. contrary (ap (λ s. s .cancelled) e ∙ x .cancelled) c) (λ k. ap timesRight e ∙ k .times)
+      (sound-in Permanent p sound r n .rest)
 
   pub timely : Timely slices
   unfolding counts timesRight
   timely d m c =
       let right = counted-right d m (not-true (d .cancelled) (and-both (eqb (d .kind) permdelta) (not (d .cancelled)) c .1)) in
-      let times = permdelta-times (d .period) (d .life) (ap (λ n. timesOf n (d .period) (d .life)) (sym (counts-kind permdelta d c)) ∙ right) in
-      ⊎-elim (λ e. inl (instant-of (d .life .end) numbers.none e)) (λ e. inr (instant-of (d .life .end) (d .period .begin) e)) (times .lifeEnd)
+      let times =
+      permdelta-times (d .period) (d .life) (ap (λ n. timesOf n (d .period) (d .life)) (sym (counts-kind permdelta d c)) ∙ right) in
+      ⊎-elim (λ e. inl (instant-of (d .life .end) numbers.none e)) (λ e. inr (instant-of (d .life .end) (d .period .begin) e))
+      (times .lifeEnd)
 
   -- ---- its states
   module _ (t : Instant) (s : State) (e : permanentAt t slices ≡ known s) where
@@ -105,11 +109,13 @@ module _ (p : List ℕ) (bytes : Bytes p) (sound : checkTable Permanent p ≡ So
     pub state-eight : length (s .properties) ≡ 8
     state-eight =
         ap (λ u. length (u .properties)) (known-line t slices s e .3)
-        ∙ applied-length 8 others (started first) (slice-eight p first (there first (inl refl))) (λ d m. slice-eight p d (there d (inr m)))
+        ∙ applied-length 8 others (started first) (slice-eight p first (there first (inl refl)))
+        (λ d m. slice-eight p d (there d (inr m)))
 
     pub state-said : (b : List ℕ) → In (says b) (s .properties) → (length b ≡ strideOf p) × (mentioned b ≡ true)
     state-said b m =
-        let (d, n, k) = line-within first others (says b) (subst (λ u. In (says b) (u .properties)) (known-line t slices s e .3) m) in
+        let (d, n, k) =
+        line-within first others (says b) (subst (λ u. In (says b) (u .properties)) (known-line t slices s e .3) m) in
         (slice-sized p Permanent sound d (there d n) b k, slice-mentioned d (there d n) b k)
 
     pub state-life : (s .life .begin .0 ≤ noInstant) × (s .life .end .0 ≤ noInstant)
@@ -126,12 +132,14 @@ module _ (p : List ℕ) (bytes : Bytes p) (sound : checkTable Permanent p ≡ So
   abbrev unknown : List ℕ
   unknown = nilUnknown (strideOf p)
 
-  filled-said : (v : Property) → ((b : List ℕ) → v ≡ says b → (length b ≡ strideOf p) × (mentioned b ≡ true)) → Said (strideOf p) (filledIn unknown v)
+  filled-said : (v : Property) → ((b : List ℕ) → v ≡ says b → (length b ≡ strideOf p) × (mentioned b ≡ true))
+      → Said (strideOf p) (filledIn unknown v)
   unfolding mentioned
   filled-said unmentioned h = (unknown, refl, refl, refl)
   filled-said (says b) h = (b, refl, h b refl .0, h b refl .1)
 
-  pub baseline-holdable : (n : ℕ) (s : Stretch) → n < 4294967296 → In s (stretches slices) → Holdable (strideOf p) (baselineOf unknown n s)
+  pub baseline-holdable : (n : ℕ) (s : Stretch) → n < 4294967296 → In s (stretches slices)
+      → Holdable (strideOf p) (baselineOf unknown n s)
   unfolding stretches baselineOf
   baseline-holdable n s k m =
       let h = stretched slices (changeInstants slices) s m in
@@ -143,7 +151,8 @@ module _ (p : List ℕ) (bytes : Bytes p) (sound : checkTable Permanent p ≡ So
         correction = omega arith;
         sequence = k;
         begin = low (t .0) (omega (arith, below t (h .begins)));
-        end = low (s .period .end .0) (⊎-elim (λ e. omega (arith, ap (λ i. i .0) e)) (λ i. omega (arith, below (s .period .end) i)) (h .ends));
+        end = low (s .period .end .0)
+            (⊎-elim (λ e. omega (arith, ap (λ i. i .0) e)) (λ i. omega (arith, below (s .period .end) i)) (h .ends));
         born = low (s .state .life .begin .0) (life .0);
         gone = low (s .state .life .end .0) (life .1);
         eight = length-map (s .state .properties) (filledIn unknown) ∙ state-eight t (s .state) (h .has);
@@ -156,20 +165,26 @@ module _ (p : List ℕ) (bytes : Bytes p) (sound : checkTable Permanent p ≡ So
       → map (viewOf (strideOf p)) (map (recordFor (strideOf p)) (numberedFrom unknown n l)) ≡ numberedFrom unknown n l
   numbered-views n [] k h = refl
   numbered-views n (s ∷ l) k h =
-      rw (view-laid (strideOf p) (baselineOf unknown n s) (baseline-holdable n s (omega arith) (h s (inl refl))), numbered-views (suc n) l (omega arith) (λ x m. h x (inr m)))
+      rw (
+        view-laid (strideOf p) (baselineOf unknown n s) (baseline-holdable n s (omega arith) (h s (inl refl))),
+        numbered-views
+            (suc n) l (omega arith) (λ x m. h x (inr m)),
+      )
 
   numbered-length : (n : ℕ) (l : List Stretch) → length (numberedFrom unknown n l) ≡ length l
   numbered-length n [] = refl
   numbered-length n (s ∷ l) = ap suc (numbered-length (suc n) l)
 
-  pub derived-views : length (derivedRecords p) ≤ 256 → map (viewOf (strideOf p)) (derivedRecords p) ≡ derivedBaselines unknown slices
+  pub derived-views : length (derivedRecords p) ≤ 256
+      → map (viewOf (strideOf p)) (derivedRecords p) ≡ derivedBaselines unknown slices
   unfolding derivedRecords derivedBaselines
   derived-views k =
       let n = length-map (numberedFrom unknown 1 (stretches slices)) (recordFor (strideOf p)) in
       numbered-views 1 (stretches slices) (omega (arith, n, numbered-length 1 (stretches slices))) (λ s m. m)
 
   -- and rise by their sequence numbers
-  numbered-above : (n : ℕ) (l : List Stretch) (b : Slice) → In b (numberedFrom unknown n l) → (b .kind ≡ baseline) × (n ≤ b .sequence .0)
+  numbered-above : (n : ℕ) (l : List Stretch) (b : Slice) → In b (numberedFrom unknown n l)
+      → (b .kind ≡ baseline) × (n ≤ b .sequence .0)
   unfolding baselineOf
   numbered-above n (s ∷ l) b (inl e) = (ap (λ x. x .kind) e, omega (arith, ap (λ x. x .sequence .0) e))
   numbered-above n (s ∷ l) b (inr m) = let h = numbered-above (suc n) l b m in (h .0, omega (arith, h .1))
@@ -177,9 +192,14 @@ module _ (p : List ℕ) (bytes : Bytes p) (sound : checkTable Permanent p ≡ So
   numbered-rising : (n : ℕ) (l : List Stretch) → Rising sliceKey keyLess sameKey (numberedFrom unknown n l)
   unfolding baselineOf keyLess lowerSequence
   numbered-rising n [] = tt
-  numbered-rising n (s ∷ l) =
-      (λ y m. let h = numbered-above (suc n) l y m in true-lex baseline n (y .kind) (y .sequence .0) (inr (sym (h .0), omega (arith, h .1))), numbered-rising (suc n) l)
+  numbered-rising n (s ∷ l) = (
+    λ y m. let h = numbered-above (suc n) l y m in
+        true-lex baseline n (y .kind) (y .sequence .0) (inr (sym (h .0), omega (arith, h .1))),
+    numbered-rising (suc n) l,
+  )
 
   pub derived-up : length (derivedRecords p) ≤ 256 → Up (derivedRecords p)
   unfolding derivedBaselines
-  derived-up k = rising-views (strideOf p) (derivedRecords p) (subst (Rising sliceKey keyLess sameKey) (sym (derived-views k)) (numbered-rising 1 (stretches slices)))
+  derived-up k =
+      rising-views (strideOf p) (derivedRecords p)
+      (subst (Rising sliceKey keyLess sameKey) (sym (derived-views k)) (numbered-rising 1 (stretches slices)))

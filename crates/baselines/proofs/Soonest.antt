@@ -18,7 +18,8 @@ least-none since best times = record { one = inl refl; most = omega tests; least
 
 -- one more, by how far it is
 pub least-turn : (since best : ℕ) (times : List ℕ) (i s d r : ℕ) → since + s ≤ noInstant → Least since best times i (since + s)
-    → d < 4294967296 → getD times i 0 < 4294967296 → (d + since) % 4294967296 ≡ getD times i 0 → r ≡ min s d → Least since best times (i + 1) (since + r)
+    → d < 4294967296 → getD times i 0 < 4294967296 → (d + since) % 4294967296 ≡ getD times i 0 → r ≡ min s d
+    → Least since best times (i + 1) (since + r)
 unfolding noInstant
 least-turn since best times i s d r low h far fits wraps e =
     by-test (leb since (getD times i 0))
@@ -27,7 +28,8 @@ least-turn since best times i s d r low h far fits wraps e =
     (λ n. record {
       one = inr (i, omega tests, omega tests, omega tests);
       most = omega (tests, h .most);
-      least = λ j k g. by-test (eqb j i) (λ z. let w : j ≡ i = omega tests in omega (tests, ap (λ (m : ℕ). getD times m 0) w)) (λ z. omega (tests, h .least j (omega tests) g));
+      least = λ j k g. by-test (eqb j i) (λ z. let w : j ≡ i = omega tests in omega (tests, ap (λ (m : ℕ). getD times m 0) w))
+          (λ z. omega (tests, h .least j (omega tests) g));
     }))
     (λ n. let q : since + d ≡ getD times i 0 + 4294967296 = omega tests in stays (omega tests) (λ k. absurd (omega tests)))
   where
@@ -36,11 +38,14 @@ least-turn since best times i s d r low h far fits wraps e =
     stays q k = rw q (record {
       one = ⊎-elim inl (λ (j, l, g, f). inr (j, omega tests, g, f)) (h .one);
       most = h .most;
-      least = λ j l g. by-test (eqb j i) (λ z. let w : j ≡ i = omega tests in let x : getD times j 0 ≡ getD times i 0 = ap (λ (m : ℕ). getD times m 0) w in omega (tests, k (omega tests))) (λ z. h .least j (omega tests) g);
+      least = λ j l g. by-test (eqb j i)
+          (λ z. let w : j ≡ i = omega tests in let x : getD times j 0 ≡ getD times i 0 = ap (λ (m : ℕ). getD times m 0) w in
+          omega (tests, k (omega tests))) (λ z. h .least j (omega tests) g);
     })
 
 -- ---- times that are noted, one record more
-set-at : (l : List ℕ) (i j v w : ℕ) → i < length l → (j ≡ i → v ≡ w) → (j < i → getD l j 0 ≡ w) → j < i + 1 → getD (set l i v) j 0 ≡ w
+set-at : (l : List ℕ) (i j v w : ℕ) → i < length l → (j ≡ i → v ≡ w) → (j < i → getD l j 0 ≡ w) → j < i + 1
+    → getD (set l i v) j 0 ≡ w
 set-at l i j v w h here before l′ =
     by-test (eqb j i)
     (λ y. let e : j ≡ i = omega tests in ap (λ (m : ℕ). getD (set l i v) m 0) e ∙ getD-set-same l i v 0 h ∙ here e)
@@ -53,8 +58,10 @@ pub noted-turn : (p begins ends gones : List ℕ) (i b e g : ℕ) → i < length
     → (j : ℕ) → j < i + 1 → NotedAt p (set begins i b) (set ends i e) (set gones i g) j
 noted-turn p begins ends gones i b e g h k l before x y z j q =
     let at : ℕ → List ℕ = λ m. recordAt (recordSize (strideOf p)) m p in (
-      set-at begins i j b (periodOf (at j) .begin .0) h (λ c. x ∙ ap (λ (m : ℕ). periodOf (at m) .begin .0) (sym c)) (λ c. before j c .0) q,
-      set-at ends i j e (periodOf (at j) .end .0) k (λ c. y ∙ ap (λ (m : ℕ). periodOf (at m) .end .0) (sym c)) (λ c. before j c .1) q,
+      set-at begins i j b (periodOf (at j) .begin .0) h (λ c. x ∙ ap (λ (m : ℕ). periodOf (at m) .begin .0) (sym c))
+          (λ c. before j c .0) q,
+      set-at ends i j e (periodOf (at j) .end .0) k (λ c. y ∙ ap (λ (m : ℕ). periodOf (at m) .end .0) (sym c))
+          (λ c. before j c .1) q,
       set-at gones i j g (lifeOf (at j) .end .0) l (λ c. z ∙ ap (λ (m : ℕ). lifeOf (at m) .end .0) (sym c)) (λ c. before j c .2) q,
     )
 

@@ -36,7 +36,8 @@ told-written (refuses n) e = absurd (refusal-apart n 1 0 (ap outcomeReply e))
 told-written (known s) e = (s, refl)
 
 -- a table whose room and order are right, an instant that is given, and a record that fits: the answer is the standing's
-module _ (p : List ℕ) (at : Instant) (buffer : List ℕ) (order : checkOrder p ≡ Sound) (at-given : isNone at ≡ false) (fits : length buffer ≡ recordSize (strideOf p)) where
+module _ (p : List ℕ) (at : Instant) (buffer : List ℕ) (order : checkOrder p ≡ Sound) (at-given : isNone at ≡ false)
+    (fits : length buffer ≡ recordSize (strideOf p)) where
   pub answered : stateAtOf p at buffer ≡ outcomeOf (permanentAt at (slicesOf p))
   answered = sym (left-asked p at buffer (permanentAt at (slicesOf p)) at-given fits ∙ order-left p at buffer order)
 
@@ -51,6 +52,7 @@ module _ (stride n : ℕ) (begin end : Instant) {step : Step} where
   step-most (known s) e = omega (arith, ap (λ (s : Step). s .records) e)
 
   -- what is left of the instant
-  pub step-left : (v : Standing) (r : List ℕ) → step ≡ stepOf stride n begin end v → step .two ≡ false → Shows stride v r → Left (eqb (step .records) 1) stride v r
+  pub step-left : (v : Standing) (r : List ℕ) → step ≡ stepOf stride n begin end v → step .two ≡ false → Shows stride v r
+      → Left (eqb (step .records) 1) stride v r
   step-left (refuses k) r e t shows = rw e (k, refl, ap (λ (s : Step). s .two) (sym e) ∙ t)
   step-left (known s) r e t shows = rw e (s, refl, shows s refl)

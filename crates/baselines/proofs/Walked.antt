@@ -56,7 +56,8 @@ module _ (p : List ℕ) where
     pub below : begin .0 ≤ noInstant
 
   module _ (low : Bounded (slicesOf p)) where
-    pub walked-none : (drawn : List ℕ) (begin : Instant) → length drawn ≡ 257 * size → begin ≡ changeSince (record { 0 = 0 }) p → Walked drawn begin 0
+    pub walked-none : (drawn : List ℕ) (begin : Instant) → length drawn ≡ 257 * size → begin ≡ changeSince (record { 0 = 0 }) p
+        → Walked drawn begin 0
     unfolding changeSince derivedRecords derivedBaselines stretches twoAnchors
     walked-none drawn begin l e =
         let w = walk-all (slicesOf p) in
@@ -100,7 +101,9 @@ module _ (p : List ℕ) where
           since = justAfter begin;
           done = w .done;
           here = e;
-          all = w .all ∙ ap (λ (l : List (List ℕ)). w .done ++ l) (ap (drawnFrom (suc (length (w .done)))) ahead ∙ gone (suc (length (w .done))));
+          all = w .all
+              ∙ ap (λ (l : List (List ℕ)). w .done ++ l)
+              (ap (drawnFrom (suc (length (w .done)))) ahead ∙ gone (suc (length (w .done))));
           two = w .two ∙ ap (any (λ t. hasTwo (permanentAt t (slicesOf p)))) ahead ∙ rw (v, n);
           counted = w .counted;
           held = w .held;
@@ -109,7 +112,8 @@ module _ (p : List ℕ) where
           below = on .1;
         }
           where
-            gone : (n : ℕ) → drawnFrom n (begin ∷ later (slicesOf p) (justAfter begin)) ≡ drawnFrom n (later (slicesOf p) (justAfter begin))
+            gone : (n : ℕ)
+                → drawnFrom n (begin ∷ later (slicesOf p) (justAfter begin)) ≡ drawnFrom n (later (slicesOf p) (justAfter begin))
             gone n = rw v
 
         pub walked-on : (drawn' : List ℕ) (s : State) → permanentAt begin (slicesOf p) ≡ known s → length drawn' ≡ 257 * size
@@ -130,13 +134,16 @@ module _ (p : List ℕ) where
                   ∙ ap (λ (m : ℕ). (w .done ++ (r ∷ [])) ++ drawnFrom (suc m) (later (slicesOf p) (justAfter begin))) (sym n);
               two = w .two ∙ ap (any (λ t. hasTwo (permanentAt t (slicesOf p)))) ahead ∙ rw v;
               counted = c ∙ sym n;
-              held = λ k. h (omega arith) ∙ ap (λ (l : List ℕ). l ++ r) (w .held (omega arith)) ∙ sym (joined-append size (w .done) (r ∷ []) ∙ ap (λ (l : List ℕ). joined (w .done) ++ l) (append-nil r));
+              held = λ k. h (omega arith) ∙ ap (λ (l : List ℕ). l ++ r) (w .held (omega arith))
+                  ∙ sym (joined-append size (w .done) (r ∷ []) ∙ ap (λ (l : List ℕ). joined (w .done) ++ l) (append-nil r));
               sized = l;
               most = omega (arith, w .most, on .0);
               below = on .1;
             }
           where
-            one : {n : ℕ} → n ≡ count + 1 → drawnFrom n (begin ∷ later (slicesOf p) (justAfter begin)) ≡ drawnRecord (strideOf p) (count + 1) begin end s ∷ drawnFrom (suc n) (later (slicesOf p) (justAfter begin))
+            one : {n : ℕ} → n ≡ count + 1
+                → drawnFrom n (begin ∷ later (slicesOf p) (justAfter begin)) ≡ drawnRecord (strideOf p) (count + 1) begin end s
+                ∷ drawnFrom (suc n) (later (slicesOf p) (justAfter begin))
             one {n} q = rw (v, q, ← e)
 
         -- a record behind those before it
@@ -149,7 +156,8 @@ module _ (p : List ℕ) where
             ∙ (λ i. take (q i) drawn ++ take-at r (postOf from k drawn) size l i)
 
         -- what a change instant gives is drawn in its place
-        pub turned : (from k : ℕ) (last : List ℕ) (step : Step) → from ≡ min count 256 * size → k ≡ size → length last ≡ length (midOf from k drawn)
+        pub turned : (from k : ℕ) (last : List ℕ) (step : Step) → from ≡ min count 256 * size → k ≡ size
+            → length last ≡ length (midOf from k drawn)
             → (v : Standing) → permanentAt begin (slicesOf p) ≡ v → step ≡ stepOf (strideOf p) (count + 1) begin end v
             → last ≡ afterStep (strideOf p) (count + 1) begin end v (midOf from k drawn) → step .two ≡ false
             → Walked (putMid from k drawn last) end (count + step .records)
@@ -160,25 +168,39 @@ module _ (p : List ℕ) where
             (walked-on (putMid from k drawn last) s at (same-len-mid from k drawn last l ∙ w .sized)
             (λ h. let from-is : from ≡ count * size = omega arith in
             let there : from + size ≤ length drawn = omega (arith, w .sized) in
-            let long : length last ≡ size = l ∙ ap (λ (m : ℕ). length (take m (drop from drawn))) t ∙ length-take-le size (drop from drawn) (simp length-drop (omega arith)) in
+            let long : length last ≡ size = l ∙ ap (λ (m : ℕ). length (take m (drop from drawn))) t
+            ∙ length-take-le size (drop from drawn) (simp length-drop (omega arith)) in
             put-behind from k last from-is (omega arith) long ∙ ap (λ (r : List ℕ). take (count * size) drawn ++ r) f))
 
   -- ---- what is left of the change instant before
-  pub before-first : (begin : Instant) (free : Bool) (r : List ℕ) → begin ≡ changeSince (record { 0 = 0 }) p → Before p begin false free r
+  pub before-first : (begin : Instant) (free : Bool) (r : List ℕ) → begin ≡ changeSince (record { 0 = 0 }) p
+      → Before p begin false free r
   unfolding changeSince
-  before-first begin free r e = inl (refl, λ x m. omega (tests, ap (λ (t : Instant). t .0) e, later-least (slicesOf p) (record { 0 = 0 }) x m (omega tests)))
+  before-first begin free r e =
+      inl (refl, λ x m. omega (tests, ap (λ (t : Instant). t .0) e, later-least (slicesOf p) (record { 0 = 0 }) x m (omega tests)))
 
   pub before-next : (begin end : Instant) (had free : Bool) (r : List ℕ) → end ≡ changeSince (justAfter begin) p → begin .0 < end .0
-      → Left had (strideOf p) (permanentAt begin (slicesOf p)) r → (free ≡ true → kept (stands (slicesOf p) begin) (slicesOf p) ≡ []) → Before p end had free r
+      → Left had (strideOf p) (permanentAt begin (slicesOf p)) r
+      → (free ≡ true → kept (stands (slicesOf p) begin) (slicesOf p) ≡ []) → Before p end had free r
   unfolding changeSince
   before-next begin end had free r e l left bare =
-      inr (begin, l, λ x m h. by-test (ltb (begin .0) (x .0)) (λ y. absurd (omega (tests, ap (λ (t : Instant). t .0) e, later-least (slicesOf p) (justAfter begin) x m (omega tests)))) (λ n. omega tests), left, bare)
+      inr (
+        begin,
+        l,
+        λ x m h. by-test (ltb (begin .0) (x .0))
+            (λ y. absurd (omega (tests, ap (λ (t : Instant). t .0) e, later-least (slicesOf p) (justAfter begin) x m (omega tests))))
+            (λ n. omega tests),
+        left,
+        bare,
+      )
 
   -- ---- the end of the walk
-  pub walked-all : (drawn : List ℕ) (begin : Instant) (count : ℕ) → Walked drawn begin count → isNone begin ≡ true → (Records count ≡ drawnOf p) × Drew (Records count) p drawn
+  pub walked-all : (drawn : List ℕ) (begin : Instant) (count : ℕ) → Walked drawn begin count → isNone begin ≡ true
+      → (Records count ≡ drawnOf p) × Drew (Records count) p drawn
   unfolding drawnOf
   walked-all drawn begin count w e =
       let none : later (slicesOf p) (w .since) ≡ [] = walk-end (slicesOf p) (w .since) (rw (← w .here) e) in
-      let all : derivedRecords p ≡ w .done = w .all ∙ ap (λ (l : List Instant). w .done ++ drawnFrom (suc (length (w .done))) l) none ∙ append-nil (w .done) in
+      let all : derivedRecords p ≡ w .done =
+      w .all ∙ ap (λ (l : List Instant). w .done ++ drawnFrom (suc (length (w .done))) l) none ∙ append-nil (w .done) in
       let two : twoAnchors (slicesOf p) ≡ false = w .two ∙ ap (any (λ t. hasTwo (permanentAt t (slicesOf p)))) none in
       (sym (rw (two, all, ← w .counted)), λ k. w .held k ∙ ap joined (sym all))

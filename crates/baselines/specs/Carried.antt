@@ -64,4 +64,5 @@ Before p t had free r =
 -- how many BASELINEs hold at an instant, and where one alone stands
 pub record Held (p : List ℕ) (t : Instant) (count place : ℕ) : Type 0 where
   pub none : count ≡ 0 → kept (stands (slicesOf p) t) (slicesOf p) ≡ []
-  pub one : count ≡ 1 → (place < countOf p) × (anchor t (slicesOf p) ≡ based (viewOf (strideOf p) (recordAt (recordSize (strideOf p)) place p)))
+  pub one : count ≡ 1
+      → (place < countOf p) × (anchor t (slicesOf p) ≡ based (viewOf (strideOf p) (recordAt (recordSize (strideOf p)) place p)))

@@ -1,4 +1,5 @@
--- The times of a table's records, noted as they stand, and the soonest of some times. No public promise cites this file. Assumes nothing.
+-- The times of a table's records, noted as they stand, and the soonest of some times. No public promise cites this file. Assumes
+-- nothing.
 use Prim.Native.Nat.{ℕ, _≤_, _<_}
 use mathlib.Core.Path.{_≡_}
 use mathlib.Core.List.{List}
@@ -27,7 +28,8 @@ pub record Fronted (p : List ℕ) (n : ℕ) : Type 0 where
 
 -- a record opens the life: it gives the life begin, at its own begin
 abbrev pub OpensAt : List ℕ → ℕ → ℕ → Type 0
-OpensAt p j time = let r = recordAt (recordSize (strideOf p)) j p in (isNone (lifeOf r .begin) ≡ false) × (periodOf r .begin .0 ≡ time)
+OpensAt p j time = let r = recordAt (recordSize (strideOf p)) j p in
+    (isNone (lifeOf r .begin) ≡ false) × (periodOf r .begin .0 ≡ time)
 
 -- last is the last time at which one of the records from one place up to another opens the life, or 0
 pub record LastOpening (p : List ℕ) (front n last : ℕ) : Type 0 where

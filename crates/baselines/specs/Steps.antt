@@ -54,4 +54,6 @@ Drew (Records n) p d = n ≤ 256 → take (n * recordSize (strideOf p)) d ≡ jo
 
 -- the last test: the output does not hold the records
 unfoldable pub handedOf : List ℕ → List ℕ → Derivation
-handedOf p output = cond (ltb (length output) (32 + length (joined (derivedRecords p)))) (refusedDerivation 23) (Derived (length (derivedRecords p)))
+handedOf p output =
+    cond (ltb (length output) (32 + length (joined (derivedRecords p)))) (refusedDerivation 23)
+    (Derived (length (derivedRecords p)))

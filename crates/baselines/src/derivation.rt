@@ -40,7 +40,11 @@ fn put_header(output: &mut [u8], feature: &[u8], count: u16)
 
 // Hands the drawn records over as a table, or answers 23 where the output does not hold them.
 fn hand_over(permanent: &[u8], drawn: &[u8], count: usize, output: &mut [u8]) -> Derivation
-    requires { ⌜ (32 ≤ length (now permanent)) × ((count ≤ 256) × ((count ≡ length (derivedRecords (now permanent))) × ((length (now drawn) ≡ 257 * recordSize (strideOf (now permanent))) × (take (count * recordSize (strideOf (now permanent))) (now drawn) ≡ joined (derivedRecords (now permanent)))))) ⌝ }
+    requires { ⌜ (32 ≤ length (now permanent))
+        × ((count ≤ 256)
+        × ((count ≡ length (derivedRecords (now permanent)))
+        × ((length (now drawn) ≡ 257 * recordSize (strideOf (now permanent)))
+        × (take (count * recordSize (strideOf (now permanent))) (now drawn) ≡ joined (derivedRecords (now permanent)))))) ⌝ }
     ensures answer { λ r. ⌜ r ≡ handedOf (now (permanent .entry)) (now (output .entry)) ⌝ }
     ensures buffer { λ r. ⌜ now (output .exit) ≡ afterDeriving r (now (permanent .entry)) (now (output .entry)) ⌝ }
 {

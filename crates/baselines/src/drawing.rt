@@ -43,7 +43,9 @@ pub enum Drawn {
 // Makes the record of a state that of a BASELINE: its kind, its sequence number, its begin and its end.
 fn put_front(record: &mut [u8], sequence: SequenceNumber, begin: Instant, end: Instant)
     requires { ⌜ 16 ≤ length (now «record») ⌝ }
-    ensures { λ _. ⌜ now («record» .exit) ≡ pasted (now («record» .entry)) 0 (1 ∷ 0 ∷ 0 ∷ 0 ∷ bytesOf 4 (sequence .0) ++ (bytesOf 4 (begin .0) ++ bytesOf 4 (end .0))) ⌝ }
+    ensures { λ _.
+        ⌜ now («record» .exit) ≡ pasted (now («record» .entry)) 0
+        (1 ∷ 0 ∷ 0 ∷ 0 ∷ bytesOf 4 (sequence .0) ++ (bytesOf 4 (begin .0) ++ bytesOf 4 (end .0))) ⌝ }
 {
     put(record, 0, &[1, 0, 0, 0]);
     put32(record, 4, sequence.0);
@@ -63,8 +65,10 @@ fn draw(
     end: Instant,
 ) -> Step
     requires { ⌜ (length (now «record») ≡ recordSize stride) × (length (now current) ≡ recordSize stride) ⌝ }
-    ensures step { λ r. ⌜ ((v : Standing) → told ≡ outcomeOf v → Shows stride v (now (current .entry)) → r ≡ stepOf stride (sequence .0) begin end v) ⌝ }
-    ensures buffer { λ r. ⌜ ((v : Standing) → told ≡ outcomeOf v → Shows stride v (now (current .entry)) → now («record» .exit) ≡ afterStep stride (sequence .0) begin end v (now («record» .entry))) ⌝ }
+    ensures step { λ r. ⌜ ((v : Standing) → told ≡ outcomeOf v → Shows stride v (now (current .entry))
+        → r ≡ stepOf stride (sequence .0) begin end v) ⌝ }
+    ensures buffer { λ r. ⌜ ((v : Standing) → told ≡ outcomeOf v → Shows stride v (now (current .entry))
+        → now («record» .exit) ≡ afterStep stride (sequence .0) begin end v (now («record» .entry))) ⌝ }
 {
     if let Outcome::Refused(refusal) = told {
         return Step {
@@ -101,7 +105,13 @@ fn walk(
     front: Front,
     drawn: &mut [u8],
 ) -> Drawn
-    requires { ⌜ (checkTable Permanent (now permanent) ≡ Sound) × (Noted (now permanent) (now begins) (now ends) (now gones) × (Fronted (now permanent) (front .end) × (LastOpening (now permanent) (front .end) (countOf (now permanent)) (front .opened) × ((length (now begins) ≡ 256) × ((length (now ends) ≡ 256) × ((length (now gones) ≡ 256) × (length (now drawn) ≡ 257 * recordSize (strideOf (now permanent))))))))) ⌝ }
+    requires { ⌜ (checkTable Permanent (now permanent) ≡ Sound)
+        × (Noted (now permanent) (now begins) (now ends) (now gones)
+        × (Fronted (now permanent) (front .end)
+        × (LastOpening (now permanent) (front .end) (countOf (now permanent)) (front .opened)
+        × ((length (now begins) ≡ 256)
+        × ((length (now ends) ≡ 256)
+        × ((length (now gones) ≡ 256) × (length (now drawn) ≡ 257 * recordSize (strideOf (now permanent))))))))) ⌝ }
     ensures answer { λ r. ⌜ r ≡ drawnOf (now (permanent .entry)) ⌝ }
     ensures buffer { λ r. ⌜ Drew r (now (permanent .entry)) (now (drawn .exit)) ⌝ }
 {

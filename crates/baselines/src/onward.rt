@@ -38,7 +38,9 @@ use table::stride_of;
 
 // Writes a life time where one is given.
 fn put_time(record: &mut [u8], at: usize, time: Instant)
-    ensures { λ _. ⌜ now («record» .exit) ≡ cond (isNone time) (now («record» .entry)) (pasted (now («record» .entry)) at (bytesOf 4 (time .0))) ⌝ }
+    ensures { λ _.
+        ⌜ now («record» .exit) ≡ cond (isNone time) (now («record» .entry))
+        (pasted (now («record» .entry)) at (bytesOf 4 (time .0))) ⌝ }
 {
     if time.is_none() {
         return;
@@ -49,7 +51,8 @@ fn put_time(record: &mut [u8], at: usize, time: Instant)
 // Writes the properties that a PERMDELTA mentions over those of a state.
 fn put_mentions(record: &mut [u8], delta: &[u8], stride: usize)
     requires { ⌜ (length (now delta) ≡ recordSize stride) × (length (now «record») ≡ recordSize stride) ⌝ }
-    ensures { λ _. ⌜ Turns stride (mentionsOver (viewOf stride (now (delta .entry)))) (now («record» .entry)) (now («record» .exit)) ⌝ }
+    ensures { λ _.
+        ⌜ Turns stride (mentionsOver (viewOf stride (now (delta .entry)))) (now («record» .entry)) (now («record» .exit)) ⌝ }
 {
     let mut n = 0;
     while n < 8 {
@@ -64,7 +67,8 @@ fn put_mentions(record: &mut [u8], delta: &[u8], stride: usize)
 // Makes the record of a state that of the state with a PERMDELTA applied.
 fn apply(record: &mut [u8], delta: &[u8], stride: usize)
     requires { ⌜ (length (now delta) ≡ recordSize stride) × (length (now «record») ≡ recordSize stride) ⌝ }
-    ensures { λ _. ⌜ Turns stride (λ s. applied s (viewOf stride (now (delta .entry)))) (now («record» .entry)) (now («record» .exit)) ⌝ }
+    ensures { λ _.
+        ⌜ Turns stride (λ s. applied s (viewOf stride (now (delta .entry)))) (now («record» .entry)) (now («record» .exit)) ⌝ }
 {
     put_mentions(record, delta, stride);
     let life = life_of(delta);
@@ -74,8 +78,15 @@ fn apply(record: &mut [u8], delta: &[u8], stride: usize)
 
 // Applies the PERMDELTAs of an instant, as they stand.
 fn apply_at(record: &mut [u8], permanent: &[u8], begins: &[u32], front: usize, instant: Instant)
-    requires { ⌜ (checkTable Permanent (now permanent) ≡ Sound) × (((ends : List ℕ) × (gones : List ℕ) × Noted (now permanent) (now begins) ends gones) × (Fronted (now permanent) front × ((length (now begins) ≡ 256) × ((isNone instant ≡ false) × (length (now «record») ≡ recordSize (strideOf (now permanent))))))) ⌝ }
-    ensures { λ _. ⌜ Turns (strideOf (now (permanent .entry))) (λ s. appliedAll s (kept (changesAt instant) (slicesOf (now (permanent .entry))))) (now («record» .entry)) (now («record» .exit)) ⌝ }
+    requires { ⌜ (checkTable Permanent (now permanent) ≡ Sound)
+        × (((ends : List ℕ) × (gones : List ℕ) × Noted (now permanent) (now begins) ends gones)
+        × (Fronted (now permanent) front
+        × ((length (now begins) ≡ 256)
+        × ((isNone instant ≡ false) × (length (now «record») ≡ recordSize (strideOf (now permanent))))))) ⌝ }
+    ensures { λ _.
+        ⌜ Turns (strideOf (now (permanent .entry)))
+        (λ s. appliedAll s (kept (changesAt instant) (slicesOf (now (permanent .entry))))) (now («record» .entry))
+        (now («record» .exit)) ⌝ }
 {
     let stride = stride_of(permanent);
     let count = count_of(permanent) as usize;
@@ -94,7 +105,9 @@ fn apply_at(record: &mut [u8], permanent: &[u8], begins: &[u32], front: usize, i
 
 // What the state of a record is at an instant: 22 where the feature is withdrawn by then.
 fn left_at(record: &[u8], instant: Instant) -> Outcome
-    ensures { λ r. ⌜ r ≡ cond (given (lifeOf (now («record» .entry)) .end) && atMost (lifeOf (now («record» .entry)) .end) instant) (refusedOutcome 22) Written ⌝ }
+    ensures { λ r.
+        ⌜ r ≡ cond (given (lifeOf (now («record» .entry)) .end) && atMost (lifeOf (now («record» .entry)) .end) instant)
+        (refusedOutcome 22) Written ⌝ }
 {
     let life = life_of(record);
     let end = life.end;
@@ -132,9 +145,18 @@ pub(crate) fn go_on(
     past: Past,
     instant: Instant,
 ) -> Outcome
-    requires { ⌜ (checkTable Permanent (now permanent) ≡ Sound) × (((ends : List ℕ) × (gones : List ℕ) × Noted (now permanent) (now begins) ends gones) × (Fronted (now permanent) (front .end) × (LastOpening (now permanent) (front .end) (countOf (now permanent)) (front .opened) × (Held (now permanent) instant (held .count) (held .place) × ((length (now begins) ≡ 256) × ((isNone instant ≡ false) × ((length (now current) ≡ recordSize (strideOf (now permanent))) × Before (now permanent) instant (past .had) (past .free) (now current)))))))) ⌝ }
+    requires { ⌜ (checkTable Permanent (now permanent) ≡ Sound)
+        × (((ends : List ℕ) × (gones : List ℕ) × Noted (now permanent) (now begins) ends gones)
+        × (Fronted (now permanent) (front .end)
+        × (LastOpening (now permanent) (front .end) (countOf (now permanent)) (front .opened)
+        × (Held (now permanent) instant (held .count) (held .place)
+        × ((length (now begins) ≡ 256)
+        × ((isNone instant ≡ false)
+        × ((length (now current) ≡ recordSize (strideOf (now permanent)))
+        × Before (now permanent) instant (past .had) (past .free) (now current)))))))) ⌝ }
     ensures answer { λ r. ⌜ r ≡ outcomeOf (permanentAt instant (slicesOf (now (permanent .entry)))) ⌝ }
-    ensures buffer { λ r. ⌜ Shows (strideOf (now (permanent .entry))) (permanentAt instant (slicesOf (now (permanent .entry)))) (now (current .exit)) ⌝ }
+    ensures buffer { λ r. ⌜ Shows (strideOf (now (permanent .entry))) (permanentAt instant (slicesOf (now (permanent .entry))))
+        (now (current .exit)) ⌝ }
 {
     if !(past.had & past.free & (held.count == 0) & (front.opened < instant.0)) {
         if held.count != 1 {

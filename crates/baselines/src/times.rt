@@ -138,7 +138,10 @@ pub(crate) fn change_since(
     front: usize,
     from: Instant,
 ) -> Instant
-    requires { ⌜ (checkTable Permanent (now permanent) ≡ Sound) × (Noted (now permanent) (now begins) (now ends) (now gones) × (Fronted (now permanent) front × ((length (now begins) ≡ 256) × ((length (now ends) ≡ 256) × (length (now gones) ≡ 256))))) ⌝ }
+    requires { ⌜ (checkTable Permanent (now permanent) ≡ Sound)
+        × (Noted (now permanent) (now begins) (now ends) (now gones)
+        × (Fronted (now permanent) front
+        × ((length (now begins) ≡ 256) × ((length (now ends) ≡ 256) × (length (now gones) ≡ 256))))) ⌝ }
     ensures { λ r. ⌜ r ≡ changeSince from (now (permanent .entry)) ⌝ }
 {
     let count = count_of(permanent) as usize;

@@ -1,5 +1,5 @@
--- What is demanded of the library, over the definitions that its promises cite, each proved by citing. docs/DEMANDS.md reads this page
--- aloud. Assumes nothing.
+-- What is demanded of the library, over the definitions that its promises cite, each proved by citing. docs/DEMANDS.md reads this
+-- page aloud. Assumes nothing.
 use Prim.Native.Nat.{ℕ, _+_, _*_, _-_, _≤_, _<_}
 use mathlib.Core.Path.{_≡_, refl, sym, ap, _∙_}
 use mathlib.Core.List.{List, [], map}
@@ -18,7 +18,8 @@ use Rattle.slice.specs.declared.check.Refusal.{Refusal}
 use Rattle.slice.specs.declared.check.Checked.the-variants.{Sound}
 use Rattle.table.specs.Header.{sideOf, countOf, featureOf, strideOf, stride1, roomOf, recordsOf}
 use Rattle.table.specs.Rules.{checkTable}
-use Rattle.table.specs.Arriving.{creationTests, creationOf, creationReply, created, recordOf, arrivalOf, arrivalReply, changed, filed, arrivedAt}
+use Rattle.table.specs.Arriving.{creationTests, creationOf, creationReply, created, recordOf, arrivalOf, arrivalReply, changed}
+use Rattle.table.specs.Arriving.{filed, arrivedAt}
 use Rattle.table.specs.Deliveries.{Decided, deliveredTo, Delivers, Agree, pairsIn, recordsAfresh, tableAfresh, TableOf}
 use Rattle.table.specs.declared.check.Sides.the-variants.{Permanent, Temporary, Both}
 use Rattle.table.specs.declared.create.Creation.the-variants as creation
@@ -27,16 +28,18 @@ use Rattle.table.proofs.Decides.{answers}
 use Rattle.table.proofs.Stays.{still-sound}
 use Rattle.table.proofs.AnyOrder.{of-set, afresh-is, only-afresh}
 use Rattle.history.specs.Snapshot.{valid}
-use Rattle.state.specs.Asking.{slicesOf, misfits, permanentStateOf, snapshotOf, outcomeReply, placeOf, placeReply, sourceOf, sourceReply, handed, Tells, afterState, afterSnapshot, refusedOutcome, refusedPlace}
+use Rattle.state.specs.Asking.{slicesOf, misfits, permanentStateOf, snapshotOf, outcomeReply, placeOf, placeReply, sourceOf}
+use Rattle.state.specs.Asking.{sourceReply, handed, Tells, afterState, afterSnapshot, refusedOutcome, refusedPlace}
 use Rattle.state.specs.Touched.{touchedOf, touchedReply, AnsweredBy, SameTouched}
 use Rattle.state.specs.Reach.{Reached, SameState, SameSnapshot, SameProperty}
 use Rattle.state.specs.declared.answer.Outcome.the-variants as outcome
 use Rattle.state.specs.declared.question.Place.the-variants as place
 use Rattle.state.specs.declared.looking.Touched.the-variants as touched
 use Rattle.state.proofs.Agrees.{property-agrees, quiet-snapshot}
-use Rattle.state.proofs.Refused.{place-refused-too, snapshot-refused-too}
+use Rattle.state.proofs.SameRefusals.{place-refused-too, snapshot-refused-too}
 use Rattle.state.proofs.Touches as touches
-use Rattle.state.proofs.Reach.{state-changed, permanent-changed, temporary-changed, permanent-property, temporary-property, touched-changed}
+use Rattle.state.proofs.Reach.{state-changed, permanent-changed, temporary-changed, permanent-property, temporary-property}
+use Rattle.state.proofs.Reach.{touched-changed}
 use Rattle.baselines.specs.Deriving.{derivedRecords, refusedDerivation, derivationOf, derivationReply, afterDeriving}
 use Rattle.baselines.specs.declared.derivation.Derivation.the-variants as derivation
 use Rattle.baselines.proofs.DerivedTable.{derived-told, derived-sound, derived-feature, derived-counts}
@@ -45,9 +48,11 @@ use Rattle.baselines.proofs.Passes as passes
 use Rattle.baselines.proofs.Passes.{derived-passes}
 use Rattle.text.specs.Listing.{listingOf, saidOf, putOf, afterPut}
 use Rattle.text.specs.declared.listing.Listing.the-variants.{Needs}
-use Rattle.demands.specs.Refused.{RefusedBy, arrivalTests, stateTests, snapshotTests, propertyTests, touchedTests, derivedTests}
+use Rattle.demands.specs.Refused.{RefusedBy, arrivalTests, stateTests, snapshotTests, propertyTests, touchedTests}
+use Rattle.demands.specs.Refused.{derivedTests}
 use Rattle.demands.specs.Fourteen.{cases, answer, wanted, fourteen}
-use Rattle.demands.proofs.Numbers.{creation-numbered, arrival-numbered, state-numbered, snapshot-numbered, place-numbered, source-numbered, touched-numbered, derived-numbered}
+use Rattle.demands.proofs.Numbers.{creation-numbered, arrival-numbered, state-numbered, snapshot-numbered, place-numbered}
+use Rattle.demands.proofs.Numbers.{source-numbered, touched-numbered, derived-numbered}
 
 -- ==== DEMAND 1. Each call refuses with the number that document 01 gives, in the order it gives ...
 module _ (t s p o output buffer : List ℕ) (side n : ℕ) (at : Instant) where
@@ -109,8 +114,8 @@ module _ (p o : RefT (List ℕ)) where
   pub unmentioned-empty : length (handed place.Unmentioned p o .1) ≡ 0
   unmentioned-empty = refl
 
--- ==== DEMAND 2. The stored table: where a table and a slice pass their checks, one rule decides which answer the delivery gets; and a
--- table that passes its check passes it after any arrival
+-- ==== DEMAND 2. The stored table: where a table and a slice pass their checks, one rule decides which answer the delivery gets;
+-- and a table that passes its check passes it after any arrival
 module _ (t s : List ℕ) where
   pub stored-table : checkTable Both t ≡ Sound → checkSlice (strideOf t) (featureOf t) (sideOf t) s ≡ Sound
       → Decided (roomOf (recordSize (strideOf t)) t) (recordOf s) (recordsOf (recordSize (strideOf t)) t) (arrivalOf t s)
@@ -119,10 +124,12 @@ module _ (t s : List ℕ) where
   pub stays-sound : checkTable Both t ≡ Sound → checkTable Both (arrivedAt t s) ≡ Sound
   stays-sound = still-sound Both t s
 
--- The snapshot, and the value of one property: property n of a snapshot that was written is what the property question hands back ...
+-- The snapshot, and the value of one property: property n of a snapshot that was written is what the property question hands back
+-- ...
 module _ (p o : List ℕ) (at : Instant) (buffer : List ℕ) where
   pub property-value : snapshotOf p o at buffer ≡ outcome.Written → (n : ℕ) → n < 8
-      → Tells p o (take (strideOf p) (drop (32 + n * strideOf p) (afterSnapshot (snapshotOf p o at buffer) p o at buffer))) (placeOf p o at n)
+      → Tells p o (take (strideOf p) (drop (32 + n * strideOf p) (afterSnapshot (snapshotOf p o at buffer) p o at buffer)))
+      (placeOf p o at n)
   property-value e n h = property-agrees p o at buffer e n h
 
   -- ... the two are refused alike, the buffer's size (23) apart ...
@@ -131,7 +138,8 @@ module _ (p o : List ℕ) (at : Instant) (buffer : List ℕ) where
     refused-alike = place-refused-too p o at n h buffer k
 
     pub alike-refused : placeOf p o at n ≡ refusedPlace k
-        → (snapshotOf p o at buffer ≡ refusedOutcome k) ⊎ ((misfits p buffer ≡ true) × (snapshotOf p o at buffer ≡ refusedOutcome 23))
+        → (snapshotOf p o at buffer ≡ refusedOutcome k)
+        ⊎ ((misfits p buffer ≡ true) × (snapshotOf p o at buffer ≡ refusedOutcome 23))
     alike-refused = snapshot-refused-too p o at n h buffer k
 
   -- ... and where no TEMPDELTA is valid the snapshot is the permanent state
@@ -151,9 +159,11 @@ module _ (p o : List ℕ) (at : Instant) (n : ℕ) where
       → k ≡ 32 + (countOf o - looked) * recordSize (strideOf o) + 32 + n * strideOf o
   touched-part = touches.touched-part p o at n
 
--- Derived baselines. Of a table that passes 1 to 7 each derived record passes the slice check, and so no derivation is refused with 24 ...
+-- Derived baselines. Of a table that passes 1 to 7 each derived record passes the slice check, and so no derivation is refused with
+-- 24 ...
 module _ (p : List ℕ) (bytes : Bytes p) where
-  pub each-passes : checkTable Permanent p ≡ Sound → (r : List ℕ) → In r (derivedRecords p) → checkRecord (strideOf p) permanent r ≡ Sound
+  pub each-passes : checkTable Permanent p ≡ Sound → (r : List ℕ) → In r (derivedRecords p)
+      → checkRecord (strideOf p) permanent r ≡ Sound
   each-passes = derived-passes p bytes
 
   pub never-24 : (output : List ℕ) → derivationOf p output ≡ refusedDerivation 24 → ⊥
@@ -181,11 +191,13 @@ module _ (p output : List ℕ) (n : ℕ) (bytes : Bytes p) (e : derivationOf p o
   module _ (t : Instant) (h : t .0 < noInstant) (buffer : List ℕ) (fits : length buffer ≡ recordSize (strideOf p)) where
     -- the same record wherever the original answers one
     pub same-record : permanentStateOf p t buffer ≡ outcome.Written
-        → (permanentStateOf derived t buffer ≡ outcome.Written) × (afterState outcome.Written derived t buffer ≡ afterState outcome.Written p t buffer)
+        → (permanentStateOf derived t buffer ≡ outcome.Written)
+        × (afterState outcome.Written derived t buffer ≡ afterState outcome.Written p t buffer)
     same-record = back-written p output n bytes e t h buffer fits
 
     -- 20 wherever it does not
-    pub no-state-elsewhere : (f : Refusal) → permanentStateOf p t buffer ≡ outcome.Refused f → permanentStateOf derived t buffer ≡ refusedOutcome 20
+    pub no-state-elsewhere : (f : Refusal) → permanentStateOf p t buffer ≡ outcome.Refused f
+        → permanentStateOf derived t buffer ≡ refusedOutcome 20
     no-state-elsewhere = back-refused p output n bytes e t h buffer fits
 
     -- and the original answers 21 at no instant
@@ -194,19 +206,23 @@ module _ (p output : List ℕ) (n : ℕ) (bytes : Bytes p) (e : derivationOf p o
 
   -- deriving again, into any output of the same length, gives the same answer and what the original gives there
   pub same-again : (other : List ℕ) → length other ≡ length output
-      → (derivationOf derived other ≡ derivation.Derived n) × (afterDeriving (derivation.Derived n) derived other ≡ afterDeriving (derivation.Derived n) p other)
+      → (derivationOf derived other ≡ derivation.Derived n)
+      × (afterDeriving (derivation.Derived n) derived other ≡ afterDeriving (derivation.Derived n) p other)
   same-again = again p output n bytes e
 
 -- ==== DEMAND 3. A new table in a buffer, for a feature of 16 bytes; and a set of slices whose records agree, and whose kinds and
 -- sequences fit the room
-module _ (buffer : List ℕ) (side : ℕ) (feature : List ℕ) (named : length feature ≡ 16) (made : creationOf buffer side ≡ creation.Made) where
+module _ (buffer : List ℕ) (side : ℕ) (feature : List ℕ) (named : length feature ≡ 16)
+    (made : creationOf buffer side ≡ creation.Made) where
   abbrev fed : List (List ℕ) → List ℕ
   fed ss = deliveredTo (created creation.Made buffer side feature) ss
 
-  module _ (set : List (List ℕ)) (agree : Agree (map recordOf set)) (fit : pairsIn (map recordOf set) ≤ roomOf (recordSize stride1) buffer) where
+  module _ (set : List (List ℕ)) (agree : Agree (map recordOf set))
+      (fit : pairsIn (map recordOf set) ≤ roomOf (recordSize stride1) buffer) where
     -- any delivery whose passing slices are those of the set, in any order, with repeats and with any failing slices among them,
     -- leaves byte for byte the table of the set, worked out afresh
-    pub as-afresh : (ss : List (List ℕ)) → Delivers feature side set ss → fed ss ≡ tableAfresh buffer side feature (map recordOf set)
+    pub as-afresh : (ss : List (List ℕ)) → Delivers feature side set ss
+        → fed ss ≡ tableAfresh buffer side feature (map recordOf set)
     as-afresh ss delivers = of-set buffer side feature named made set ss delivers agree fit
 
     -- so two deliveries of the set, with other failing slices among them, leave the same bytes

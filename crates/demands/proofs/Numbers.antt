@@ -17,7 +17,8 @@ use Rattle.slice.specs.Record.{recordSize, correctionOf, Slice}
 use Rattle.slice.specs.Check.{sliceTests}
 use Rattle.table.specs.Header.{sideOf, featureOf, strideOf, roomOf, recordsOf}
 use Rattle.table.specs.Rules.{tableTests}
-use Rattle.table.specs.Arriving.{creationRefused, creationTests, creationOf, creationReply, refusedArrival, recordOf, storedOf, acceptedOf, filingTests, filingOf, arrivalOf, arrivalReply}
+use Rattle.table.specs.Arriving.{creationRefused, creationTests, creationOf, creationReply, refusedArrival, recordOf, storedOf}
+use Rattle.table.specs.Arriving.{acceptedOf, filingTests, filingOf, arrivalOf, arrivalReply}
 use Rattle.table.specs.declared.check.Sides.the-variants.{Both}
 use Rattle.table.specs.declared.create.Creation.the-variants as creation
 use Rattle.table.specs.declared.arrival.Arrival.the-variants as arrival
@@ -26,14 +27,17 @@ use Rattle.history.specs.Permanent.{Standing, refuses, known, permanentAt}
 use Rattle.history.specs.Snapshot.{passing, overlaid, snapshotAt}
 use Rattle.history.specs.Source.{line, lastMention}
 use Rattle.history.specs.Touched.{touches}
-use Rattle.state.specs.Asking.{slicesOf, permanentTests, bothTests, writingTests, askingTests, refusedOutcome, outcomeOf, outcomeReply, permanentStateOf, snapshotOf, refusedPlace, placed, placeAt, placeOf, placeReply, sourceOf, sourceReply}
+use Rattle.state.specs.Asking.{slicesOf, permanentTests, bothTests, writingTests, askingTests, refusedOutcome, outcomeOf}
+use Rattle.state.specs.Asking.{outcomeReply, permanentStateOf, snapshotOf, refusedPlace, placed, placeAt, placeOf, placeReply}
+use Rattle.state.specs.Asking.{sourceOf, sourceReply}
 use Rattle.state.specs.Touched.{refusedTouched, touchedBy, touchedOf, touchedReply}
 use Rattle.state.specs.declared.question.Place.{Place}
 use Rattle.state.specs.declared.question.Place.the-variants as place
 use Rattle.state.specs.declared.looking.Touched.the-variants as touched
 use Rattle.baselines.specs.Deriving.{derivedRecords, refusedDerivation, derivationOf, derivationReply}
 use Rattle.baselines.specs.declared.derivation.Derivation.the-variants as derivation
-use Rattle.demands.specs.Refused.{RefusedBy, arrivalTests, standingTests, stateTests, snapshotTests, propertyTests, touchedTests, derivedTests}
+use Rattle.demands.specs.Refused.{RefusedBy, arrivalTests, standingTests, stateTests, snapshotTests, propertyTests}
+use Rattle.demands.specs.Refused.{touchedTests, derivedTests}
 use Rattle.demands.proofs.Standing.{answered, standing-tests}
 
 -- ---- a call whose answer is made by tests, and then an accepted one
@@ -41,7 +45,8 @@ abbrev Accepted : Reply → Type 0
 Accepted (refusedWith n) = ⊥
 Accepted (acceptedAs k v) = Unit {0}
 
-by-tests : (tests : List Test) (accepted reply : Reply) → Accepted accepted → reply ≡ refuse refusedWith tests accepted → RefusedBy tests reply
+by-tests : (tests : List Test) (accepted reply : Reply) → Accepted accepted → reply ≡ refuse refusedWith tests accepted
+    → RefusedBy tests reply
 by-tests tests accepted reply a e n = (
   λ q. given-number refusedWith accepted (λ k r. subst (λ x. Accepted x) (sym r) a) refusal-tells n tests (sym e ∙ q),
   λ f. e ∙ number-given refusedWith accepted n tests f,
@@ -51,7 +56,8 @@ by-tests tests accepted reply a e n = (
 pub creation-numbered : (t : List ℕ) (side : ℕ) → RefusedBy (creationTests t side) (creationReply (creationOf t side))
 unfolding creationOf creationReply
 creation-numbered t side =
-    by-tests (creationTests t side) (acceptedAs 1 0) _ tt (refuse-map creationReply creationRefused refusedWith (λ n. refl) (creationTests t side) creation.Made)
+    by-tests (creationTests t side) (acceptedAs 1 0) _ tt
+    (refuse-map creationReply creationRefused refusedWith (λ n. refl) (creationTests t side) creation.Made)
 
 -- ---- an arrival
 either : (b c : Bool) → Accepted (arrivalReply (cond b arrival.Replaced (cond c arrival.Superseded arrival.Repeat)))
@@ -63,7 +69,8 @@ either false false = tt
 accepted-arrival : (r : List ℕ) (o : Option (List ℕ)) → Accepted (arrivalReply (acceptedOf r o))
 unfolding arrivalReply
 accepted-arrival r none = tt
-accepted-arrival r (some x) = either (lowerCorrection (correctionOf x) (correctionOf r)) (lowerCorrection (correctionOf r) (correctionOf x))
+accepted-arrival r (some x) =
+    either (lowerCorrection (correctionOf x) (correctionOf r)) (lowerCorrection (correctionOf r) (correctionOf x))
 
 pub arrival-numbered : (t s : List ℕ) → RefusedBy (arrivalTests t s) (arrivalReply (arrivalOf t s))
 unfolding arrivalOf filingOf arrivalReply
@@ -72,8 +79,10 @@ arrival-numbered t s =
     let before = tableTests (strideOf t) Both t ++ sliceTests (strideOf t) (featureOf t) (sideOf t) s in
     let behind = filingTests (roomOf (recordSize (strideOf t)) t) (recordOf s) rs in
     let accepted = acceptedOf (recordOf s) (storedOf (recordOf s) rs) in
-    by-tests (arrivalTests t s) (arrivalReply accepted) (arrivalReply (arrivalOf t s)) (accepted-arrival (recordOf s) (storedOf (recordOf s) rs))
-    (ap arrivalReply (sym (refuse-join refusedArrival before behind accepted)) ∙ refuse-map arrivalReply refusedArrival refusedWith (λ n. refl) (before ++ behind) accepted)
+    by-tests (arrivalTests t s) (arrivalReply accepted) (arrivalReply (arrivalOf t s))
+    (accepted-arrival (recordOf s) (storedOf (recordOf s) rs))
+    (ap arrivalReply (sym (refuse-join refusedArrival before behind accepted))
+    ∙ refuse-map arrivalReply refusedArrival refusedWith (λ n. refl) (before ++ behind) accepted)
 
 -- ---- the questions about an instant
 -- any state
@@ -81,11 +90,14 @@ abbrev anyState : State
 anyState = record { life = record { begin = numbers.none; end = numbers.none }; properties = [] }
 
 -- tests, and then the standing, from which an accepted answer is made
-behind-tests : (written : State → Reply) → ((s : State) → Accepted (written s)) → (tests : List Test) (t : Instant) (slices : List Slice) (reply : Reply)
-    → reply ≡ refuse refusedWith tests (answered refusedWith written (permanentAt t slices)) → RefusedBy (tests ++ standingTests t slices) reply
+behind-tests : (written : State → Reply) → ((s : State) → Accepted (written s))
+    → (tests : List Test) (t : Instant) (slices : List Slice) (reply : Reply)
+    → reply ≡ refuse refusedWith tests (answered refusedWith written (permanentAt t slices))
+    → RefusedBy (tests ++ standingTests t slices) reply
 behind-tests written a tests t slices reply e =
     by-tests (tests ++ standingTests t slices) (written _) reply (a _)
-    (e ∙ ap (refuse refusedWith tests) (standing-tests refusedWith written t slices anyState) ∙ sym (refuse-join refusedWith tests (standingTests t slices) _))
+    (e ∙ ap (refuse refusedWith tests) (standing-tests refusedWith written t slices anyState)
+    ∙ sym (refuse-join refusedWith tests (standingTests t slices) _))
 
 abbrev write : State → Reply
 write s = acceptedAs 1 0
@@ -106,7 +118,8 @@ module _ (p : List ℕ) (at : Instant) (buffer : List ℕ) where
   state-numbered =
       let tests = permanentTests p ++ writingTests p at buffer in
       behind-tests write (λ s. tt) tests at (slicesOf p) _
-      (refuse-map outcomeReply refusedOutcome refusedWith (λ n. refl) tests _ ∙ ap (refuse refusedWith tests) (outcome-answered (permanentAt at (slicesOf p))))
+      (refuse-map outcomeReply refusedOutcome refusedWith (λ n. refl) tests _
+      ∙ ap (refuse refusedWith tests) (outcome-answered (permanentAt at (slicesOf p))))
 
   pub snapshot-numbered : (t : List ℕ) → RefusedBy (snapshotTests p t at buffer) (outcomeReply (snapshotOf p t at buffer))
   unfolding snapshotOf snapshotAt outcomeReply
@@ -118,7 +131,8 @@ module _ (p : List ℕ) (at : Instant) (buffer : List ℕ) where
 
 -- ---- one property: where it is, and which table it is from
 module _ (p t : List ℕ) (at : Instant) (n : ℕ) (reply : Place → Reply) (own : (k : ℕ) → reply (refusedPlace k) ≡ refusedWith k)
-    (permanent : (k : ℕ) → Accepted (reply (place.Permanent k))) (temporary : (k : ℕ) → Accepted (reply (place.Temporary k))) (nowhere : Accepted (reply place.Unmentioned)) where
+    (permanent : (k : ℕ) → Accepted (reply (place.Permanent k))) (temporary : (k : ℕ) → Accepted (reply (place.Temporary k)))
+    (nowhere : Accepted (reply place.Unmentioned)) where
   accepted-place : (u v : Option Slice) → Accepted (reply (placed p t n u v))
   accepted-place (some d) v = temporary _
   accepted-place none (some d) = permanent _
@@ -135,8 +149,10 @@ module _ (p t : List ℕ) (at : Instant) (n : ℕ) (reply : Place → Reply) (ow
   unfolding placeOf
   asked-numbered =
       let tests = bothTests p t ++ askingTests at n in
-      behind-tests (λ s. reply found) (λ s. accepted-place (lastMention n (passing at (slicesOf t))) (lastMention n (line at (slicesOf p)))) tests at (slicesOf p) _
-      (refuse-map reply refusedPlace refusedWith own tests _ ∙ ap (refuse refusedWith tests) (place-answered (permanentAt at (slicesOf p))))
+      behind-tests (λ s. reply found)
+      (λ s. accepted-place (lastMention n (passing at (slicesOf t))) (lastMention n (line at (slicesOf p)))) tests at (slicesOf p) _
+      (refuse-map reply refusedPlace refusedWith own tests _
+      ∙ ap (refuse refusedWith tests) (place-answered (permanentAt at (slicesOf p))))
 
 module _ (p t : List ℕ) (at : Instant) (n : ℕ) where
   pub place-numbered : RefusedBy (propertyTests p t at n) (placeReply (placeOf p t at n))
@@ -165,4 +181,5 @@ pub derived-numbered : (p output : List ℕ) → RefusedBy (derivedTests p outpu
 unfolding derivationOf derivationReply
 derived-numbered p output =
     by-tests (derivedTests p output) (acceptedAs 1 (length (derivedRecords p))) _ tt
-    (refuse-map derivationReply refusedDerivation refusedWith (λ n. refl) (derivedTests p output) (derivation.Derived (length (derivedRecords p))))
+    (refuse-map derivationReply refusedDerivation refusedWith (λ n. refl) (derivedTests p output)
+    (derivation.Derived (length (derivedRecords p))))

@@ -8,7 +8,8 @@ use Rattle.numbers.specs.declared.Instant.{Instant}
 use Rattle.slice.specs.Record.{Slice}
 use Rattle.history.specs.Anchor.{Anchor, based, opened, nowhere, two, anchor}
 use Rattle.history.specs.State.{State, started, appliedAll}
-use Rattle.history.specs.Permanent.{following, Standing, refuses, known, withdrawn, unlessWithdrawn, reached, standingFrom, permanentAt}
+use Rattle.history.specs.Permanent.{following, Standing, refuses, known, withdrawn, unlessWithdrawn, reached, standingFrom}
+use Rattle.history.specs.Permanent.{permanentAt}
 use Rattle.demands.specs.Refused.{isTwo, isNowhere, isWithdrawn, standingTests}
 
 -- the state that an anchor gives; where there is none, any
@@ -34,7 +35,8 @@ module _ {A : Type 0} (refused : ℕ → A) (written : State → A) where
   standing-tests t slices s = go (anchor t slices)
     where
       go : (a : Anchor) → answered (standingFrom t slices a)
-          ≡ cond (isTwo a) (refused 21) (cond (isNowhere a) (refused 20) (cond (isWithdrawn t slices a) (refused 22) (written (stateBy t slices s a))))
+          ≡ cond (isTwo a) (refused 21)
+          (cond (isNowhere a) (refused 20) (cond (isWithdrawn t slices a) (refused 22) (written (stateBy t slices s a))))
       go (based b) = split (withdrawn t (appliedAll (started b) (following t slices (based b)))) _
       go (opened o) = split (withdrawn t (appliedAll (started o) (following t slices (opened o)))) _
       go nowhere = refl

@@ -51,7 +51,8 @@ isWithdrawn t slices two = false
 
 abbrev pub standingTests : Instant → List Slice → List Test
 standingTests t slices =
-    test 21 (isTwo (anchor t slices)) ∷ test 20 (isNowhere (anchor t slices)) ∷ test 22 (isWithdrawn t slices (anchor t slices)) ∷ []
+    test 21 (isTwo (anchor t slices)) ∷ test 20 (isNowhere (anchor t slices)) ∷ test 22 (isWithdrawn t slices (anchor t slices))
+    ∷ []
 
 -- permanent state: 1-7, 19, 23, 21, 20, 22
 abbrev pub stateTests : List ℕ → Instant → List ℕ → List Test

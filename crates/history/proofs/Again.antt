@@ -18,9 +18,11 @@ use Rattle.slice.specs.Record.{baseline, Property, unmentioned, says, Slice}
 use Rattle.history.specs.Counted.{counts}
 use Rattle.history.specs.Permanent.{Standing, refuses, known, permanentAt}
 use Rattle.history.specs.Changes.{changesBy, changeInstants, nextOf}
-use Rattle.history.specs.Derived.{hasTwo, twoAnchors, Stretch, stretch, stretchesFrom, stretches, filledIn, baselineOf, numberedFrom, derivedBaselines, asWritten, readBack}
-use Rattle.history.proofs.Kept.{kept-rising, append-in}
-use Rattle.history.proofs.Changes.{Risen, Changing, Bounded, changes-rising, changes-from, changes-given, changes-below, changing-given, begin-changing, end-changing}
+use Rattle.history.specs.Derived.{hasTwo, twoAnchors, Stretch, stretch, stretchesFrom, stretches, filledIn, baselineOf}
+use Rattle.history.specs.Derived.{numberedFrom, derivedBaselines, asWritten, readBack}
+use Rattle.history.proofs.Selection.{kept-rising, append-in}
+use Rattle.history.proofs.Changes.{Risen, Changing, Bounded, changes-rising, changes-from, changes-given, changes-below}
+use Rattle.history.proofs.Changes.{changing-given, begin-changing, end-changing}
 use Rattle.history.proofs.Steady.{Timely, known-life}
 use Rattle.history.proofs.ReadBack.{Stretched, stretched, numbered-in, read-back}
 
@@ -49,7 +51,8 @@ module _ (k : List Instant) where
       (record { rising = up'; within = λ x m. m; covers = λ x m. (x, m, refl, refl) })
 
 -- where the first of some instants is kept it is the first that is
-next-same : (f : Instant → Bool) (ts : List Instant) → ((x : Instant) → In x ts → x .0 < noInstant) → (nextOf ts ≡ none) ⊎ (f (nextOf ts) ≡ true)
+next-same : (f : Instant → Bool) (ts : List Instant) → ((x : Instant) → In x ts → x .0 < noInstant)
+    → (nextOf ts ≡ none) ⊎ (f (nextOf ts) ≡ true)
     → nextOf (kept f ts) ≡ nextOf ts
 next-same f [] below h = refl
 next-same f (t ∷ ts) below (inl e) = absurd (omega (tests, below t (inl refl), ap (λ i. i .0) e))
@@ -99,13 +102,15 @@ module _ (unknown : List ℕ) where
         let c : In x (s .period .begin ∷ s .period .end ∷ s .state .life .end ∷ []) = rw e at j in
         changing-given slices x (one s h c) g
       where
-        one : (s : Stretch) → Stretched slices (changeInstants slices) s → In x (s .period .begin ∷ s .period .end ∷ s .state .life .end ∷ []) → Changing slices x
+        one : (s : Stretch) → Stretched slices (changeInstants slices) s
+            → In x (s .period .begin ∷ s .period .end ∷ s .state .life .end ∷ []) → Changing slices x
         one s h (inl e) = inr (rw e (h .begins))
         one s h (inr (inl e)) = rw e (h .ends)
         one s h (inr (inr (inl e))) = rw e (known-life slices ok (s .period .begin) (s .state) (h .has))
 
     -- and each stretch begins at one of them, and ends at one or never
-    stretch-changes : (s : Stretch) → In s (stretches slices) → Changing derived (s .period .begin) × Changing derived (s .period .end)
+    stretch-changes : (s : Stretch) → In s (stretches slices)
+        → Changing derived (s .period .begin) × Changing derived (s .period .end)
     unfolding derivedBaselines counts baselineOf
     stretch-changes s m =
         let (k, i) = in-numbered 1 (stretches slices) s m in
@@ -116,7 +121,8 @@ module _ (unknown : List ℕ) where
     unfolding twoAnchors
     derived-two =
         none-any (λ t. hasTwo (permanentAt t derived)) (changeInstants derived)
-        (λ t m. ap hasTwo (read-back unknown slices ok t (changes-below slices low t (derived-changes t m))) ∙ one (permanentAt t slices))
+        (λ t m. ap hasTwo (read-back unknown slices ok t (changes-below slices low t (derived-changes t m)))
+        ∙ one (permanentAt t slices))
       where
         one : (v : Standing) → hasTwo (readBack unknown v) ≡ false
         one (refuses n) = refl
@@ -128,7 +134,8 @@ module _ (unknown : List ℕ) where
     Held f l = (s : Stretch) → In s l → (f (s .period .begin) ≡ true) × ((s .period .end ≡ none) ⊎ (f (s .period .end) ≡ true))
 
     -- then the stretches of what is kept are the same, as they are written
-    again-from : (f : Instant → Bool) (us : List Instant) → ((x : Instant) → In x us → x .0 < noInstant) → Held f (stretchesFrom slices us)
+    again-from : (f : Instant → Bool) (us : List Instant) → ((x : Instant) → In x us → x .0 < noInstant)
+        → Held f (stretchesFrom slices us)
         → stretchesFrom derived (kept f us) ≡ map written (stretchesFrom slices us)
     again-from f [] below held = refl
     again-from f (t ∷ ts) below held =
@@ -138,7 +145,8 @@ module _ (unknown : List ℕ) where
         first : List Stretch
         first = stretch t (nextOf ts) (permanentAt t slices)
 
-        go : (v : Standing) → permanentAt t slices ≡ v → Held f (stretch t (nextOf ts) v) → stretchesFrom derived (kept f ts) ≡ map written (stretchesFrom slices ts)
+        go : (v : Standing) → permanentAt t slices ≡ v → Held f (stretch t (nextOf ts) v)
+            → stretchesFrom derived (kept f ts) ≡ map written (stretchesFrom slices ts)
             → stretchesFrom derived (kept f (t ∷ ts)) ≡ map written (stretch t (nextOf ts) v ++ stretchesFrom slices ts)
         go (refuses n) e held q =
             pick-ind (λ l. stretchesFrom derived l ≡ map written (stretchesFrom slices ts)) (f t)
@@ -152,8 +160,10 @@ module _ (unknown : List ℕ) where
     pub derived-again : derivedBaselines unknown derived ≡ derived
     unfolding derivedBaselines stretches
     derived-again =
-        ap (λ ts. numberedFrom unknown 1 (stretchesFrom derived ts)) (sym (kept-among left all (changes-rising slices) (changes-rising derived) derived-changes))
-        ∙ ap (numberedFrom unknown 1) (again-from (among left) all (changes-below slices low) held) ∙ numbered-written 1 (stretches slices)
+        ap (λ ts. numberedFrom unknown 1 (stretchesFrom derived ts))
+        (sym (kept-among left all (changes-rising slices) (changes-rising derived) derived-changes))
+        ∙ ap (numberedFrom unknown 1) (again-from (among left) all (changes-below slices low) held)
+        ∙ numbered-written 1 (stretches slices)
       where
         all : List Instant
         all = changeInstants slices

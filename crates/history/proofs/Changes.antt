@@ -1,5 +1,5 @@
--- The change instants: they rise and are given, each time by which a slice changes the state is among them, and a walk from one to the
--- next goes through them all. Assumes nothing.
+-- The change instants: they rise and are given, each time by which a slice changes the state is among them, and a walk from one to
+-- the next goes through them all. Assumes nothing.
 use Prim.Native.Nat.{_+_, _≤_, _<_}
 use mathlib.Core.Path.{_≡_, refl, sym, ap, _∙_, subst}
 use mathlib.Core.List.{List, [], _∷_, map}
@@ -18,7 +18,7 @@ use Rattle.numbers.proofs.Orders.{instant-of, instant-order}
 use Rattle.slice.specs.Record.{baseline, permdelta, Slice}
 use Rattle.history.specs.Counted.{counts}
 use Rattle.history.specs.Changes.{changesBy, changeInstants, nextOf}
-use Rattle.history.proofs.Kept.{kept-rising, joined-in}
+use Rattle.history.proofs.Selection.{kept-rising, joined-in}
 
 -- instants in strictly rising order
 abbrev pub Risen : List Instant → Type 0
@@ -66,7 +66,9 @@ module _ (slices : List Slice) where
   changing x c =
       by-test (isNone x) (λ e. inl (instant-of x none (none-true x e)))
       (λ n. let all = joined (map changesBy slices) in
-      let (y, m, e) = sorted-key (λ t. t) before sameInstant instant-order (kept given all) x (kept-in given all x .1 (joined-in changesBy slices x .1 c, ap not n)) in
+      let (y, m, e) =
+      sorted-key (λ t. t) before sameInstant instant-order (kept given all) x
+      (kept-in given all x .1 (joined-in changesBy slices x .1 c, ap not n)) in
       inr (subst (λ z. In z (changeInstants slices)) e m))
 
   pub changing-given : (x : Instant) → Changing slices x → given x ≡ true → In x (changeInstants slices)
@@ -74,7 +76,8 @@ module _ (slices : List Slice) where
 
   -- the begin, end and life end of a counted BASELINE; the instant of a counted PERMDELTA
   module _ (s : Slice) (m : In s slices) where
-    baseline-changing : counts baseline s ≡ true → (x : Instant) → In x (s .period .begin ∷ s .period .end ∷ s .life .end ∷ []) → Changing slices x
+    baseline-changing : counts baseline s ≡ true → (x : Instant) → In x (s .period .begin ∷ s .period .end ∷ s .life .end ∷ [])
+        → Changing slices x
     unfolding changesBy
     baseline-changing c x k = changing x (s, m, rw c k)
 
@@ -90,7 +93,8 @@ module _ (slices : List Slice) where
     pub delta-changing : counts permdelta s ≡ true → Changing slices (s .period .begin)
     unfolding changesBy
     delta-changing c =
-        changing (s .period .begin) (s, m, pick-ind (λ l. In (s .period .begin) l) (counts baseline s) (λ _. inl refl) (λ _. rw c (inl refl)))
+        changing (s .period .begin)
+        (s, m, pick-ind (λ l. In (s .period .begin) l) (counts baseline s) (λ _. inl refl) (λ _. rw c (inl refl)))
 
 -- ---- those at or after an instant
 pub next-in : (l : List Instant) → (nextOf l ≡ none) ⊎ In (nextOf l) l
@@ -111,8 +115,10 @@ unfolding atMost before
 next-first v [] up = λ n. absurd (none-false none n refl)
 next-first v (x ∷ l) (low, up) =
     pick-ind (λ k. isNone (nextOf k) ≡ false → k ≡ nextOf k ∷ kept (atMost (justAfter (nextOf k))) (x ∷ l)) (atMost v x)
-    (λ y _. ap (λ (k : List Instant). x ∷ k) (all v (λ z m. omega (tests, low z m)) ∙ sym (past x (omega tests) ∙ all (justAfter x) (λ z m. omega (tests, low z m)))))
-    (λ f n. next-first v l up n ∙ ap (λ (k : List Instant). nextOf (kept (atMost v) l) ∷ k) (sym (past (nextOf (kept (atMost v) l)) (ahead f n))))
+    (λ y _. ap (λ (k : List Instant). x ∷ k)
+    (all v (λ z m. omega (tests, low z m)) ∙ sym (past x (omega tests) ∙ all (justAfter x) (λ z m. omega (tests, low z m)))))
+    (λ f n. next-first v l up n
+    ∙ ap (λ (k : List Instant). nextOf (kept (atMost v) l) ∷ k) (sym (past (nextOf (kept (atMost v) l)) (ahead f n))))
   where
     all : (u : Instant) → ((z : Instant) → In z l → u .0 ≤ z .0) → kept (atMost u) l ≡ l
     all u h = kept-all (atMost u) l (λ z m. omega (tests, h z m))
@@ -123,7 +129,8 @@ next-first v (x ∷ l) (low, up) =
     ahead : atMost v x ≡ false → isNone (nextOf (kept (atMost v) l)) ≡ false → x .0 ≤ nextOf (kept (atMost v) l) .0
     ahead f n =
         let t = nextOf (kept (atMost v) l) in
-        ⊎-elim (λ e. absurd (none-false t n (ap (λ i. i .0) e))) (λ m. omega (tests, kept-in (atMost v) l t .0 m .1)) (next-in (kept (atMost v) l))
+        ⊎-elim (λ e. absurd (none-false t n (ap (λ i. i .0) e))) (λ m. omega (tests, kept-in (atMost v) l t .0 m .1))
+        (next-in (kept (atMost v) l))
 
 module _ (slices : List Slice) where
   -- all, from instant 0 on
@@ -138,7 +145,9 @@ module _ (slices : List Slice) where
     -- the first of them is none or a change instant at or after v, and no other such comes before it
     pub later-next : (nextOf later ≡ none) ⊎ (In (nextOf later) (changeInstants slices) × (v .0 ≤ nextOf later .0))
     unfolding atMost
-    later-next = ⊎-elim inl (λ m. let (i, l) = kept-in (atMost v) (changeInstants slices) (nextOf later) .0 m in inr (i, omega tests)) (next-in later)
+    later-next =
+        ⊎-elim inl (λ m. let (i, l) = kept-in (atMost v) (changeInstants slices) (nextOf later) .0 m in inr (i, omega tests))
+        (next-in later)
 
     pub later-least : (x : Instant) → In x (changeInstants slices) → v .0 ≤ x .0 → nextOf later .0 ≤ x .0
     unfolding atMost
@@ -150,7 +159,9 @@ module _ (slices : List Slice) where
     walk-on l = ⊎-elim (λ e. omega (tests, ap (λ i. i .0) e)) (λ (m, k). k) later-next
 
     pub walk-below : Bounded slices → nextOf later .0 ≤ noInstant
-    walk-below low = ⊎-elim (λ e. omega (tests, ap (λ i. i .0) e)) (λ (m, k). omega (tests, changes-below slices low (nextOf later) m)) later-next
+    walk-below low =
+        ⊎-elim (λ e. omega (tests, ap (λ i. i .0) e))
+        (λ (m, k). omega (tests, changes-below slices low (nextOf later) m)) later-next
 
     -- where the first is none there are none
     pub walk-end : isNone (nextOf later) ≡ true → later ≡ []
@@ -161,5 +172,6 @@ module _ (slices : List Slice) where
         go (t ∷ ts) g e = contrary e (not-true (isNone t) (g t (inl refl)))
 
   -- and where it is given the others are those after it
-  pub walk-next : (v : Instant) → isNone (nextOf (later v)) ≡ false → later v ≡ nextOf (later v) ∷ later (justAfter (nextOf (later v)))
+  pub walk-next : (v : Instant) → isNone (nextOf (later v)) ≡ false
+      → later v ≡ nextOf (later v) ∷ later (justAfter (nextOf (later v)))
   walk-next v = next-first v (changeInstants slices) (changes-rising slices)

@@ -45,10 +45,12 @@ module _ (later : Slice → Slice → Bool) (test : Slice → Bool) where
   abbrev Found : ℕ → List Slice → Placed → Type 0
   Found i ds b = (k : ℕ) × (b .place ≡ i + k) × (k < length ds) × ((d : Slice) → getD ds k d ≡ b .slice) × (test (b .slice) ≡ true)
 
-  found-from : (v : Option Placed) (i : ℕ) (ds : List Slice) (b : Placed) → latestFrom later test v i ds ≡ some b → (v ≡ some b) ⊎ Found i ds b
+  found-from : (v : Option Placed) (i : ℕ) (ds : List Slice) (b : Placed) → latestFrom later test v i ds ≡ some b
+      → (v ≡ some b) ⊎ Found i ds b
   found-from v i [] b e = inl e
   found-from v i (d ∷ ds) b e =
-      ⊎-elim (here v) (λ (k, p, l, g, t). inr (suc k, omega arith, omega arith, g, t)) (found-from (latestWith later test v i d) (suc i) ds b e)
+      ⊎-elim (here v) (λ (k, p, l, g, t). inr (suc k, omega arith, omega arith, g, t))
+      (found-from (latestWith later test v i d) (suc i) ds b e)
     where
       own : test d ≡ true → some (at i d) ≡ some b → Found i (d ∷ ds) b
       own t q =
@@ -65,7 +67,8 @@ module _ (later : Slice → Slice → Bool) (test : Slice → Bool) where
       → (b .place < length slices) × ((d : Slice) → getD slices (b .place) d ≡ b .slice) × (test (b .slice) ≡ true)
   latest-placed slices b e = ⊎-elim (λ q. absurd (Option·none-ne-some b q)) go (found-from none 0 slices b e)
     where
-      go : Found 0 slices b → (b .place < length slices) × ((d : Slice) → getD slices (b .place) d ≡ b .slice) × (test (b .slice) ≡ true)
+      go : Found 0 slices b
+          → (b .place < length slices) × ((d : Slice) → getD slices (b .place) d ≡ b .slice) × (test (b .slice) ≡ true)
       go (k, p, l, g, t) = let q : b .place ≡ k = omega arith in (omega arith, λ d. rw q (g d), t)
 
 -- ---- what it is to be the latest
@@ -87,7 +90,8 @@ module _ {K : Type 0} (key : Slice → K) (less same : K → K → Bool) (o : Ke
   abbrev Apart : (Slice → Bool) → List Slice → Type 0
   Apart test slices = (a b : Slice) → In a slices → In b slices → test a ≡ true → test b ≡ true → key a ≡ key b → a ≡ b
 
-  latest-one : (test : Slice → Bool) (slices : List Slice) → Apart test slices → (v w : Option Slice) → Latest test slices v → Latest test slices w → v ≡ w
+  latest-one : (test : Slice → Bool) (slices : List Slice) → Apart test slices → (v w : Option Slice) → Latest test slices v
+      → Latest test slices w → v ≡ w
   latest-one test slices one none none f g = refl
   latest-one test slices one none (some b) f g = let p = g .within b refl in absurd (f .covers b (p .0) (p .1))
   latest-one test slices one (some a) none f g = let p = f .within a refl in absurd (g .covers a (p .0) (p .1))
@@ -97,13 +101,16 @@ module _ {K : Type 0} (key : Slice → K) (less same : K → K → Bool) (o : Ke
       ap some (one a b m n t u (o .total (key a) (key b) (f .covers b n u) (g .covers a m t)))
 
   -- ---- the last in rising order
-  last-stays : (test : Slice → Bool) (v : Option Slice) (l : List Slice) (d : Slice) → ((x : Slice) → In x l → less (key x) (key d) ≡ false) → Covers v d
+  last-stays : (test : Slice → Bool) (v : Option Slice) (l : List Slice) (d : Slice)
+      → ((x : Slice) → In x l → less (key x) (key d) ≡ false) → Covers v d
       → Covers (lastOf test v l) d
   last-stays test v [] d low c = c
   last-stays test v (x ∷ l) d low c =
-      last-stays test (cond (test x) (some x) v) l d (λ y m. low y (inr m)) (pick-ind (λ w. Covers w d) (test x) (λ _. low x (inl refl)) (λ _. c))
+      last-stays test (cond (test x) (some x) v) l d (λ y m. low y (inr m))
+      (pick-ind (λ w. Covers w d) (test x) (λ _. low x (inl refl)) (λ _. c))
 
-  last-covers : (test : Slice → Bool) (v : Option Slice) (l : List Slice) → Rising key less same l → (d : Slice) → In d l → test d ≡ true
+  last-covers : (test : Slice → Bool) (v : Option Slice) (l : List Slice) → Rising key less same l → (d : Slice) → In d l
+      → test d ≡ true
       → Covers (lastOf test v l) d
   last-covers test v (x ∷ l) (low, up) d (inl e) t =
       last-stays test (cond (test x) (some x) v) l d (λ y m. rw e (less-asym less same o (key x) (key y) (low y m)))
@@ -117,7 +124,8 @@ module _ {K : Type 0} (key : Slice → K) (less same : K → K → Bool) (o : Ke
     covers = λ d m t. let (y, z) = and-both (f d) (g d) t in
         let (x, i, e) = sorted-key key less same o (kept f slices) d (kept-in f slices d .1 (m, y)) in
         let (n, w) = member x i in
-        last-covers g none order (sorted-rising key less same o (kept f slices)) d (subst (λ z. In z order) (one x d n m w y e) i) z;
+        last-covers g none order (sorted-rising key less same o (kept f slices)) d
+        (subst (λ z. In z order) (one x d n m w y e) i) z;
   }
     where
       order : List Slice
@@ -154,19 +162,23 @@ module _ {K : Type 0} (key : Slice → K) (less same : K → K → Bool) (o : Ke
         pick-ind (λ w. Covers (sliceIn w) d) (test d && later (b .slice) d) (λ _. self d)
         (λ n. rw t at n)
 
-    from-stays : (v : Option Placed) (i : ℕ) (ds : List Slice) (d : Slice) → Covers (sliceIn v) d → Covers (sliceIn (latestFrom later test v i ds)) d
+    from-stays : (v : Option Placed) (i : ℕ) (ds : List Slice) (d : Slice) → Covers (sliceIn v) d
+        → Covers (sliceIn (latestFrom later test v i ds)) d
     from-stays v i [] d c = c
     from-stays v i (x ∷ ds) d c = from-stays (latestWith later test v i x) (suc i) ds d (with-stays v i x d c)
 
-    from-covers : (v : Option Placed) (i : ℕ) (ds : List Slice) (d : Slice) → In d ds → test d ≡ true → Covers (sliceIn (latestFrom later test v i ds)) d
+    from-covers : (v : Option Placed) (i : ℕ) (ds : List Slice) (d : Slice) → In d ds → test d ≡ true
+        → Covers (sliceIn (latestFrom later test v i ds)) d
     from-covers v i (x ∷ ds) d (inl e) t =
         from-stays (latestWith later test v i x) (suc i) ds d (rw (← e) (with-own v i d t))
     from-covers v i (x ∷ ds) d (inr m) t = from-covers (latestWith later test v i x) (suc i) ds d m t
 
     pass-latest : (slices : List Slice) → Latest test slices (sliceIn (latestFrom later test none 0 slices))
-    pass-latest slices = record { within = λ b. go b (latestFrom later test none 0 slices) refl; covers = from-covers none 0 slices }
+    pass-latest slices =
+        record { within = λ b. go b (latestFrom later test none 0 slices) refl; covers = from-covers none 0 slices }
       where
-        go : (b : Slice) (v : Option Placed) → latestFrom later test none 0 slices ≡ v → sliceIn v ≡ some b → In b slices × (test b ≡ true)
+        go : (b : Slice) (v : Option Placed) → latestFrom later test none 0 slices ≡ v → sliceIn v ≡ some b
+            → In b slices × (test b ≡ true)
         go b none e q = absurd (Option·none-ne-some b q)
         go b (some p) e q =
             let (l, g, t) = latest-placed later test slices p e in
@@ -175,24 +187,31 @@ module _ {K : Type 0} (key : Slice → K) (less same : K → K → Bool) (o : Ke
 
 -- ---- the TEMPDELTAs that are valid
 -- slices of one kind rise by sequence number
-of-kind : (kind : ℕ) (f : Slice → Bool) → ((d : Slice) → f d ≡ true → d .kind ≡ kind) → (slices : List Slice) → Rising sliceKey keyLess sameKey slices
+of-kind : (kind : ℕ) (f : Slice → Bool) → ((d : Slice) → f d ≡ true → d .kind ≡ kind) → (slices : List Slice)
+    → Rising sliceKey keyLess sameKey slices
     → Rising sequenceIn lowerSequence sameSequence (kept f slices)
 unfolding keyLess lowerSequence
 of-kind kind f one [] up = tt
 of-kind kind f one (d ∷ ds) (low, up) =
     pick-ind (Rising sequenceIn lowerSequence sameSequence) (f d)
-    (λ y. (λ x m. let (n, z) = kept-in f ds x .0 m in higher (d .kind) (d .sequence .0) (x .kind) (x .sequence .0) (one d y ∙ sym (one x z)) (low x n), of-kind kind f one ds up))
+    (λ y. (
+      λ x m. let (n, z) = kept-in f ds x .0 m in
+          higher (d .kind) (d .sequence .0) (x .kind) (x .sequence .0) (one d y ∙ sym (one x z)) (low x n),
+      of-kind kind f one ds up,
+    ))
     (λ _. of-kind kind f one ds up)
   where
     higher : (k a l b : ℕ) → k ≡ l → pairLess k a l b ≡ true → ltb a b ≡ true
     higher k a l b e h = ⊎-elim (λ m. absurd (omega arith)) (λ (_, m). lt-ltb a b m) (lex-true k a l b h)
 
-last-kept : (f g : Slice → Bool) (v : Option Slice) (slices : List Slice) → lastOf g v (kept f slices) ≡ lastOf (λ d. f d && g d) v slices
+last-kept : (f g : Slice → Bool) (v : Option Slice) (slices : List Slice)
+    → lastOf g v (kept f slices) ≡ lastOf (λ d. f d && g d) v slices
 last-kept f g v [] = refl
 last-kept f g v (d ∷ ds) = by-test (f d) (λ y. rw y (last-kept f g (cond (g d) (some d) v) ds)) (λ n. rw n (last-kept f g v ds))
 
 -- a pass that takes each that comes finds the last
-pass-last : (test : Slice → Bool) (v : Option Placed) (i : ℕ) (ds : List Slice) → sliceIn (latestFrom (λ a b. true) test v i ds) ≡ lastOf test (sliceIn v) ds
+pass-last : (test : Slice → Bool) (v : Option Placed) (i : ℕ) (ds : List Slice)
+    → sliceIn (latestFrom (λ a b. true) test v i ds) ≡ lastOf test (sliceIn v) ds
 pass-last test v i [] = refl
 pass-last test v i (d ∷ ds) = pass-last test (latestWith (λ a b. true) test v i d) (suc i) ds ∙ ap (λ w. lastOf test w ds) (taken v)
   where
@@ -204,7 +223,8 @@ pub last-valid : (t : Instant) (slices : List Slice) → Rising sliceKey keyLess
     → lastOf (tells q) none (passing t slices) ≡ sliceIn (latestValid q t slices)
 unfolding valid passing latestValid
 last-valid t slices up q =
-    ap (lastOf (tells q) none) (sorted-same sequenceIn lowerSequence sameSequence sequence-order (kept (valid t) slices) (of-kind tempdelta (valid t)
+    ap (lastOf (tells q) none)
+    (sorted-same sequenceIn lowerSequence sameSequence sequence-order (kept (valid t) slices) (of-kind tempdelta (valid t)
     (λ d y. counts-kind tempdelta d (and-both (counts tempdelta d) (holds t (d .period .begin) (d .period .end)) y .0)) slices up))
     ∙ last-kept (valid t) (tells q) none slices ∙ sym (pass-last (λ d. valid t d && tells q d) none 0 slices)
 
@@ -220,7 +240,8 @@ after-stays (opened b) d e n y = less-on turnLess sameTurn turn-order (turnOf b)
 after-stays nowhere d e n y = y
 after-stays two d e n y = y
 
-after-latest : (a : Anchor) (test : Slice → Bool) (slices : List Slice) (v : Option Placed) → Latest turnOf turnLess sameTurn turn-order test slices (sliceIn v)
+after-latest : (a : Anchor) (test : Slice → Bool) (slices : List Slice) (v : Option Placed)
+    → Latest turnOf turnLess sameTurn turn-order test slices (sliceIn v)
     → Latest turnOf turnLess sameTurn turn-order (λ d. test d && after a d) slices (sliceIn (afterOnly a v))
 after-latest a test slices none f = record {
   within = λ b e. absurd (Option·none-ne-some b e);
@@ -253,10 +274,12 @@ pub last-due : (since t : Instant) (slices : List Slice) → Rising sliceKey key
 unfolding follows due following latestDue
 last-due since t slices up a all q =
     last-is turnOf turnLess sameTurn turn-order (follows t a) (tells q) slices
-    (λ b c m n y z e. counted-one permdelta slices up b c m n (and-both (counts permdelta b) (atMost (b .period .begin) t && after a b) y .0)
+    (λ b c m n y z e. counted-one permdelta slices up b c m n
+    (and-both (counts permdelta b) (atMost (b .period .begin) t && after a b) y .0)
     (and-both (counts permdelta c) (atMost (c .period .begin) t && after a c) z .0) (ap (λ k. k .sequence) e))
     (sliceIn (afterOnly a (latestFrom laterTurn (λ d. due since t d && tells q d) none 0 slices)))
     (subst (λ test. Latest turnOf turnLess sameTurn turn-order test slices (sliceIn (afterOnly a (latestDue q since t slices))))
-    (fun-ext (λ d. regroup (counts permdelta d) (atMost since (d .period .begin)) (atMost (d .period .begin) t) (tells q d) (after a d) (all d)))
+    (fun-ext (λ d. regroup (counts permdelta d) (atMost since (d .period .begin)) (atMost (d .period .begin) t) (tells q d)
+    (after a d) (all d)))
     (after-latest a (λ d. due since t d && tells q d) slices (latestDue q since t slices)
     (pass-latest turnOf turnLess sameTurn turn-order (λ d. due since t d && tells q d) slices)))

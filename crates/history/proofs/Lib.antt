@@ -18,7 +18,7 @@ pub mod Steady
 -- the state at one change instant from the state at the one before
 pub mod Onward
 -- a derived BASELINE has right times (15) and content (16)
-pub mod Drawn
+pub mod DerivedRules
 -- the change instants rise, are given, and contain every time at which the state may change
 pub mod Changes
 -- what the other laws need of how long a BASELINE holds and how far it reaches
@@ -26,4 +26,4 @@ pub mod Periods
 -- the order by instant and then sequence number is strict and total
 pub mod Orders
 -- what is kept of a list, and what is in joined lists
-pub mod Kept
+pub mod Selection

@@ -28,7 +28,8 @@ Within slices (opened o) = In o slices × (counts permdelta o ≡ true)
 Within slices nowhere = Unit {0}
 Within slices two = Unit {0}
 
-pub only-within : (slices : List Slice) (at : Slice → Anchor) (otherwise : Anchor) (l : List Slice) → ((x : Slice) → In x l → Within slices (at x))
+pub only-within : (slices : List Slice) (at : Slice → Anchor) (otherwise : Anchor) (l : List Slice)
+    → ((x : Slice) → In x l → Within slices (at x))
     → Within slices otherwise → Within slices (only at otherwise l)
 only-within slices at otherwise [] f w = w
 only-within slices at otherwise (x ∷ []) f w = f x (inl refl)
@@ -39,9 +40,11 @@ module _ (t : Instant) (slices : List Slice) where
   unfolding anchor stands opens
   anchor-within =
       only-within slices based (only opened nowhere (kept (opens t) slices)) (kept (stands slices t) slices)
-      (λ b m. let (i, y) = kept-in (stands slices t) slices b .0 m in (i, and-both (counts baseline b) (holds t (b .period .begin) (until slices b)) y .0))
+      (λ b m. let (i, y) = kept-in (stands slices t) slices b .0 m in
+      (i, and-both (counts baseline b) (holds t (b .period .begin) (until slices b)) y .0))
       (only-within slices opened nowhere (kept (opens t) slices)
-      (λ o m. let (i, y) = kept-in (opens t) slices o .0 m in (i, and-both (counts permdelta o) (given (o .life .begin) && atMost (o .period .begin) t) y .0))
+      (λ o m. let (i, y) = kept-in (opens t) slices o .0 m in
+      (i, and-both (counts permdelta o) (given (o .life .begin) && atMost (o .period .begin) t) y .0))
       tt)
 
   pub line-in : (d : Slice) → In d (line t slices) → In d slices
@@ -99,7 +102,8 @@ pub applied-within : (ds : List Slice) (s : State) (x : Property) → In x (appl
 unfolding applied
 applied-within [] s x m = inl m
 applied-within (d ∷ ds) s x m =
-    ⊎-elim (λ p. ⊎-elim (λ q. inr (d, inl refl, q)) inl (over-within (d .properties) (s .properties) x p)) (λ (b, n, q). inr (b, inr n, q))
+    ⊎-elim (λ p. ⊎-elim (λ q. inr (d, inl refl, q)) inl (over-within (d .properties) (s .properties) x p))
+    (λ (b, n, q). inr (b, inr n, q))
     (applied-within ds (applied s d) x m)
 
 pub line-within : (a : Slice) (ds : List Slice) (x : Property) → In x (appliedAll (started a) ds .properties)

@@ -1,5 +1,6 @@
--- Going on from one change instant to the next: under a BASELINE that holds at both, or an opening PERMDELTA that is the anchor at both,
--- the state at the later one is that at the earlier one with the PERMDELTAs of that instant applied, as they stand. Assumes nothing.
+-- Going on from one change instant to the next: under a BASELINE that holds at both, or an opening PERMDELTA that is the anchor at
+-- both, the state at the later one is that at the earlier one with the PERMDELTAs of that instant applied, as they stand. Assumes
+-- nothing.
 use Prim.Native.Nat.{ℕ, _≤_, _<_}
 use lib.Dec.{ltb}
 use mathlib.Core.Path.{_≡_, refl, sym, ap, _∙_}
@@ -22,12 +23,13 @@ use Rattle.history.specs.Counted.{counts, holds, sliceKey}
 use Rattle.history.specs.Period.{until}
 use Rattle.history.specs.Anchor.{stands, opens, Anchor, based, opened, nowhere, two, only, anchor}
 use Rattle.history.specs.State.{State, started, newTime, applied, appliedAll}
-use Rattle.history.specs.Permanent.{turnOf, turnLess, sameTurn, after, follows, following, refuses, known, withdrawn, unlessWithdrawn, reached, standingFrom, permanentAt}
+use Rattle.history.specs.Permanent.{turnOf, turnLess, sameTurn, after, follows, following, refuses, known, withdrawn}
+use Rattle.history.specs.Permanent.{unlessWithdrawn, reached, standingFrom, permanentAt}
 use Rattle.history.specs.Onward.{changesAt, NoneBetween}
 use Rattle.history.specs.Derived.{hasTwo}
 use Rattle.history.proofs.Orders.{turn-order, counts-kind, counted-one}
 use Rattle.history.proofs.Parts.{following-in}
-use Rattle.history.proofs.Kept.{and-under, kept-same, kept-none, kept-rising, append-in}
+use Rattle.history.proofs.Selection.{and-under, kept-same, kept-none, kept-rising, append-in}
 use Rattle.history.proofs.Line.{known-apart, known-same}
 use Rattle.history.proofs.Steady.{Timely}
 use Rattle.history.proofs.Changes.{Changing, begin-changing, delta-changing}
@@ -38,7 +40,8 @@ applied-append [] es s = refl
 applied-append (d ∷ ds) es s = applied-append ds es _
 
 -- one that follows an anchor by an instant counts, begins no later than it and comes after the anchor
-followed : (v : Instant) (a : Anchor) (d : Slice) → follows v a d ≡ true → (counts permdelta d ≡ true) × (d .period .begin .0 ≤ v .0) × (after a d ≡ true)
+followed : (v : Instant) (a : Anchor) (d : Slice) → follows v a d ≡ true
+    → (counts permdelta d ≡ true) × (d .period .begin .0 ≤ v .0) × (after a d ≡ true)
 unfolding follows atMost
 followed v a d y =
     let (c, z) = and-both (counts permdelta d) (atMost (d .period .begin) v && after a d) y in
@@ -66,7 +69,8 @@ two-apart : (b : Slice) → two ≡ based b → ⊥
 two-apart b e = true≢false cc
 
 -- the one of some, where they are not two
-only-one : (otherwise : Anchor) (l : List Slice) (b : Slice) → In b l → (only based otherwise l ≡ two → ⊥) → only based otherwise l ≡ based b
+only-one : (otherwise : Anchor) (l : List Slice) (b : Slice) → In b l → (only based otherwise l ≡ two → ⊥)
+    → only based otherwise l ≡ based b
 only-one otherwise (x ∷ []) b (inl e) n = ap based (sym e)
 only-one otherwise (x ∷ y ∷ l) b m n = absurd (n refl)
 
@@ -76,15 +80,19 @@ opened-apart (y ∷ []) x e = true≢false cc
 opened-apart (y ∷ z ∷ l) x e = two-apart x e
 
 -- the anchor is one that holds
-only-held : (otherwise : Anchor) (l : List Slice) (b : Slice) → ((x : Slice) → otherwise ≡ based x → ⊥) → only based otherwise l ≡ based b → In b l
+only-held : (otherwise : Anchor) (l : List Slice) (b : Slice) → ((x : Slice) → otherwise ≡ based x → ⊥)
+    → only based otherwise l ≡ based b → In b l
 only-held otherwise [] b n e = absurd (n b e)
 only-held otherwise (x ∷ []) b n e = inl (sym (based-same x b e))
 only-held otherwise (x ∷ y ∷ l) b n e = absurd (two-apart b e)
 
 -- a BASELINE that is the anchor is there, and holds
-pub anchor-held : (slices : List Slice) (t : Instant) (b : Slice) → anchor t slices ≡ based b → In b slices × (stands slices t b ≡ true)
+pub anchor-held : (slices : List Slice) (t : Instant) (b : Slice) → anchor t slices ≡ based b
+    → In b slices × (stands slices t b ≡ true)
 unfolding anchor
-anchor-held slices t b a = kept-in (stands slices t) slices b .0 (only-held _ (kept (stands slices t) slices) b (λ x. opened-apart (kept (opens t) slices) x) a)
+anchor-held slices t b a =
+    kept-in (stands slices t) slices b .0
+    (only-held _ (kept (stands slices t) slices) b (λ x. opened-apart (kept (opens t) slices) x) a)
 
 -- ---- turns
 -- rising lists, one behind the other, rise
@@ -95,7 +103,8 @@ append-rising (x ∷ l) k (low, up) over h =
     (λ y m. ⊎-elim (low y) (h x y (inl refl)) (append-in l k y .0 m), append-rising l k up over (λ a b m n. h a b (inr m) n))
 
 -- slices of one kind and one instant rise in their turn
-level-rising : (kind n : ℕ) (l : List Slice) → Rising sliceKey keyLess sameKey l → ((x : Slice) → In x l → (x .kind ≡ kind) × (x .period .begin .0 ≡ n))
+level-rising : (kind n : ℕ) (l : List Slice) → Rising sliceKey keyLess sameKey l
+    → ((x : Slice) → In x l → (x .kind ≡ kind) × (x .period .begin .0 ≡ n))
     → Rising turnOf turnLess sameTurn l
 unfolding keyLess turnLess before sameInstant lowerSequence
 level-rising kind n [] up h = tt
@@ -103,7 +112,11 @@ level-rising kind n (x ∷ l) (low, up) h = (
   λ y m. let (p, q) = h x (inl refl) in
       let (r, v) = h y (inr m) in
       true-lex (x .period .begin .0) (x .sequence .0) (y .period .begin .0) (y .sequence .0)
-      (inr (q ∙ sym v, ⊎-elim (λ k. absurd (omega tests)) (λ (_, k). k) (lex-true (x .kind) (x .sequence .0) (y .kind) (y .sequence .0) (low y m)))),
+      (inr (
+        q ∙ sym v,
+        ⊎-elim (λ k. absurd (omega tests)) (λ (_, k). k)
+            (lex-true (x .kind) (x .sequence .0) (y .kind) (y .sequence .0) (low y m)),
+      )),
   level-rising kind n l up (λ y m. h y (inr m)),
 )
 
@@ -113,7 +126,8 @@ unfolding turnLess before sameInstant lowerSequence
 earlier x y l = true-lex (x .period .begin .0) (x .sequence .0) (y .period .begin .0) (y .sequence .0) (inl l)
 
 -- ---- two instants with no change between
-module _ (slices : List Slice) (up : Rising sliceKey keyLess sameKey slices) (u t : Instant) (later : u .0 < t .0) (given′ : t .0 < noInstant) (between : NoneBetween slices u t) where
+module _ (slices : List Slice) (up : Rising sliceKey keyLess sameKey slices) (u t : Instant) (later : u .0 < t .0)
+    (given′ : t .0 < noInstant) (between : NoneBetween slices u t) where
   -- a change that is no later than t is one of t, or no later than u
   split : (x : Instant) → Changing slices x → x .0 ≤ t .0 → (x .0 ≤ u .0) ⊎ (x .0 ≡ t .0)
   split x (inl e) h = absurd (omega (tests, ap (λ i. i .0) e))
@@ -143,9 +157,11 @@ module _ (slices : List Slice) (up : Rising sliceKey keyLess sameKey slices) (u 
     Follower d = In d (kept (follows t a) slices)
 
     -- what follows it by an instant
-    follower-is : (v : Instant) (d : Slice) → In d slices → counts permdelta d ≡ true → d .period .begin .0 ≤ v .0 → after a d ≡ true → In d (kept (follows v a) slices)
+    follower-is : (v : Instant) (d : Slice) → In d slices → counts permdelta d ≡ true → d .period .begin .0 ≤ v .0
+        → after a d ≡ true → In d (kept (follows v a) slices)
     unfolding follows atMost
-    follower-is v d m c l k = let p : atMost (d .period .begin) v ≡ true = omega tests in kept-in (follows v a) slices d .1 (m, rw (c, p, k))
+    follower-is v d m c l k = let p : atMost (d .period .begin) v ≡ true = omega tests in
+        kept-in (follows v a) slices d .1 (m, rw (c, p, k))
 
     -- two of one turn are one
     agree : Consistent turnOf turnLess sameTurn (λ d. 0) ltb Follower
@@ -168,8 +184,10 @@ module _ (slices : List Slice) (up : Rising sliceKey keyLess sameKey slices) (u 
     by-u : Fresh turnOf turnLess sameTurn (λ d. 0) ltb Follower (following u slices a ++ here)
     unfolding following
     by-u = record {
-      rising = append-rising (following u slices a) here (sorted-rising turnOf turnLess sameTurn turn-order (kept (follows u a) slices))
-          (level-rising permdelta (t .0) here (kept-rising sliceKey keyLess sameKey (changesAt t) slices up) (λ x m. let (n, c, e) = of-t x m in (counts-kind permdelta x c, e)))
+      rising = append-rising (following u slices a) here
+          (sorted-rising turnOf turnLess sameTurn turn-order (kept (follows u a) slices))
+          (level-rising permdelta (t .0) here (kept-rising sliceKey keyLess sameKey (changesAt t) slices up)
+          (λ x m. let (n, c, e) = of-t x m in (counts-kind permdelta x c, e)))
           (λ x y m n. let (i, p) = following-in u slices a x m in
           let (c, l, k) = followed u a x p in
           let (j, d, e) = of-t y n in
@@ -183,7 +201,8 @@ module _ (slices : List Slice) (up : Rising sliceKey keyLess sameKey slices) (u 
       covers = λ d m. let (i, p) = kept-in (follows t a) slices d .0 m in
           let (c, l, k) = followed t a d p in
           ⊎-elim
-          (λ s. let (x, n, e) = sorted-key turnOf turnLess sameTurn turn-order (kept (follows u a) slices) d (follower-is u d i c s k) in
+          (λ s. let (x, n, e) =
+          sorted-key turnOf turnLess sameTurn turn-order (kept (follows u a) slices) d (follower-is u d i c s k) in
           (x, append-in (following u slices a) here x .1 (inl n), e, refl))
           (λ s. let n = kept-in (changesAt t) slices d .1 (i, at-t d c s) in
           (d, append-in (following u slices a) here d .1 (inr n), refl, refl))
@@ -197,14 +216,16 @@ module _ (slices : List Slice) (up : Rising sliceKey keyLess sameKey slices) (u 
         (following u slices a ++ here) by-t by-u
 
     -- what is reached from it by t is what was by u with those of t applied
-    reached-on : (x : Slice) → reached t slices a x ≡ unlessWithdrawn t (appliedAll (appliedAll (started x) (following u slices a)) here)
+    reached-on : (x : Slice)
+        → reached t slices a x ≡ unlessWithdrawn t (appliedAll (appliedAll (started x) (following u slices a)) here)
     unfolding reached
     reached-on x =
         ap (λ (l : List Slice). unlessWithdrawn t (appliedAll (started x) l)) following-on
         ∙ ap (unlessWithdrawn t) (applied-append (following u slices a) here (started x))
 
     -- where that was a state, those of t are applied to it
-    reached-known : (x : Slice) (s : State) → reached u slices a x ≡ known s → reached t slices a x ≡ unlessWithdrawn t (appliedAll s here)
+    reached-known : (x : Slice) (s : State) → reached u slices a x ≡ known s
+        → reached t slices a x ≡ unlessWithdrawn t (appliedAll s here)
     unfolding reached unlessWithdrawn
     reached-known x s k =
         let made = appliedAll (started x) (following u slices a) in
@@ -238,7 +259,8 @@ module _ (slices : List Slice) (up : Rising sliceKey keyLess sameKey slices) (u 
     unfolding permanentAt anchor
     on-open s k = rw (bare′, kept-same (opens t) (opens u) slices opens-still) (go (kept (opens u) slices) opened-by (rw bare at k))
       where
-        go : (l : List Slice) → ((o : Slice) → In o l → o .period .begin .0 ≤ u .0) → standingFrom u slices (only opened nowhere l) ≡ known s
+        go : (l : List Slice) → ((o : Slice) → In o l → o .period .begin .0 ≤ u .0)
+            → standingFrom u slices (only opened nowhere l) ≡ known s
             → standingFrom t slices (only opened nowhere l) ≡ unlessWithdrawn t (appliedAll s here)
         go [] h k = absurd (known-apart 20 s k)
         go (o ∷ []) h k = let l = h o (inl refl) in reached-known (opened o) (λ d e. earlier o d (omega tests)) o s k
@@ -253,7 +275,8 @@ module _ (slices : List Slice) (up : Rising sliceKey keyLess sameKey slices) (u 
         let (m, y) = anchor-held slices t b a in
         let (c, z) = and-both (counts baseline b) (atMost (b .period .begin) t && before t (until slices b)) y in
         let (p, q) = and-both (atMost (b .period .begin) t) (before t (until slices b)) z in
-        let early : b .period .begin .0 ≤ u .0 = ⊎-elim (λ l. l) (λ e. absurd (omega tests)) (split (b .period .begin) (begin-changing slices b m c) (omega tests)) in
+        let early : b .period .begin .0 ≤ u .0 =
+        ⊎-elim (λ l. l) (λ e. absurd (omega tests)) (split (b .period .begin) (begin-changing slices b m c) (omega tests)) in
         let f : atMost (b .period .begin) u ≡ true = omega tests in
         let g : before u (until slices b) ≡ true = omega tests in
         kept-in (stands slices u) slices b .1 (m, rw (c, f, g))
@@ -261,7 +284,8 @@ module _ (slices : List Slice) (up : Rising sliceKey keyLess sameKey slices) (u 
     -- so it was the anchor at u, where there were not two
     anchor-before : hasTwo (permanentAt u slices) ≡ false → anchor u slices ≡ based b
     unfolding anchor permanentAt
-    anchor-before n = only-one _ (kept (stands slices u) slices) b held-before (λ e. contrary (ap (λ x. hasTwo (standingFrom u slices x)) e) n)
+    anchor-before n =
+        only-one _ (kept (stands slices u) slices) b held-before (λ e. contrary (ap (λ x. hasTwo (standingFrom u slices x)) e) n)
 
     -- the state at u and the state at t are what is reached from it
     standing-before : hasTwo (permanentAt u slices) ≡ false → permanentAt u slices ≡ reached u slices (based b) b
@@ -282,13 +306,16 @@ module _ (slices : List Slice) (up : Rising sliceKey keyLess sameKey slices) (u 
     on-known s k = standing-now ∙ reached-known (based b) past-base b s (sym (standing-before (ap hasTwo k)) ∙ k)
 
     -- ON FROM WITHDRAWN: it stays withdrawn
-    pub on-refused : Timely slices → (n : ℕ) → permanentAt u slices ≡ refuses n → hasTwo (refuses n) ≡ false → permanentAt t slices ≡ refuses 22
+    pub on-refused : Timely slices → (n : ℕ) → permanentAt u slices ≡ refuses n → hasTwo (refuses n) ≡ false
+        → permanentAt t slices ≡ refuses 22
     unfolding reached unlessWithdrawn withdrawn applied newTime atMost isNone
     on-refused ok n k one =
         let made = appliedAll (started b) (following u slices (based b)) in
-        let w : withdrawn u made ≡ true = refused-withdrawn (withdrawn u made) made n (sym (standing-before (ap hasTwo k ∙ one)) ∙ k) in
+        let w : withdrawn u made ≡ true =
+        refused-withdrawn (withdrawn u made) made n (sym (standing-before (ap hasTwo k ∙ one)) ∙ k) in
         standing-now ∙ reached-on (based b) past-base b
-        ∙ rw (stays here made (λ d m. let (i, c, e) = of-t d m in ⊎-elim inl (λ q. inr (ap (λ x. x .0) q ∙ e)) (ok d i c)) (ends made w))
+        ∙ rw (stays here made (λ d m. let (i, c, e) = of-t d m in ⊎-elim inl (λ q. inr (ap (λ x. x .0) q ∙ e)) (ok d i c))
+        (ends made w))
       where
         -- what refuses a state is that it is withdrawn
         refused-withdrawn : (c : Bool) (s : State) (n : ℕ) → cond c (refuses 22) (known s) ≡ refuses n → c ≡ true
@@ -303,10 +330,13 @@ module _ (slices : List Slice) (up : Rising sliceKey keyLess sameKey slices) (u 
             (omega tests, omega tests)
 
         -- and those of t, which end it at t or not at all, leave it so
-        stays : (ds : List Slice) (s : State) → ((d : Slice) → In d ds → (d .life .end ≡ none) ⊎ (d .life .end .0 ≡ t .0)) → (s .life .end .0 < noInstant) × (s .life .end .0 ≤ t .0)
+        stays : (ds : List Slice) (s : State) → ((d : Slice) → In d ds → (d .life .end ≡ none) ⊎ (d .life .end .0 ≡ t .0))
+            → (s .life .end .0 < noInstant) × (s .life .end .0 ≤ t .0)
             → withdrawn t (appliedAll s ds) ≡ true
-        stays [] s h (g, l) = let n : isNone (s .life .end) ≡ false = omega tests in let y : atMost (s .life .end) t ≡ true = omega tests in rw (n, y)
+        stays [] s h (g, l) = let n : isNone (s .life .end) ≡ false = omega tests in let y : atMost (s .life .end) t ≡ true =
+            omega tests in rw (n, y)
         stays (d ∷ ds) s h (g, l) =
             stays ds (applied s d) (λ x m. h x (inr m))
             (pick-ind (λ (x : Instant). (x .0 < noInstant) × (x .0 ≤ t .0)) (isNone (d .life .end)) (λ _. (g, l))
-            (λ n. ⊎-elim (λ e. absurd (none-false (d .life .end) n (ap (λ i. i .0) e))) (λ e. (omega tests, omega tests)) (h d (inl refl))))
+            (λ n. ⊎-elim (λ e. absurd (none-false (d .life .end) n (ap (λ i. i .0) e))) (λ e. (omega tests, omega tests))
+            (h d (inl refl))))

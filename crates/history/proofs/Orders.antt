@@ -25,10 +25,15 @@ unfolding turnLess sameTurn before sameInstant lowerSequence sameSequence
 turn-order = record {
   irrefl = λ a. lex-irrefl (a .instant .0) (a .sequence .0);
   trans = λ a b c. lex-trans (a .instant .0) (a .sequence .0) (b .instant .0) (b .sequence .0) (c .instant .0) (c .sequence .0);
-  total = λ a b p q. let e = lex-total (a .instant .0) (a .sequence .0) (b .instant .0) (b .sequence .0) p q in turn-of a b (e .0) (e .1);
+  total = λ a b p q. let e = lex-total (a .instant .0) (a .sequence .0) (b .instant .0) (b .sequence .0) p q in
+      turn-of a b (e .0) (e .1);
   told = λ a b h. let p = and-both (eqb (a .instant .0) (b .instant .0)) (eqb (a .sequence .0) (b .sequence .0)) h in
       turn-of a b (eqb-true _ _ (p .0)) (eqb-true _ _ (p .1));
-  tells = λ a b e. rw (eq-eqb (a .instant .0) (b .instant .0) (ap (λ k. k .instant .0) e), eq-eqb (a .sequence .0) (b .sequence .0) (ap (λ k. k .sequence .0) e));
+  tells = λ a b e. rw (
+    eq-eqb (a .instant .0) (b .instant .0) (ap (λ k. k .instant .0) e),
+    eq-eqb (a .sequence .0) (b .sequence .0)
+        (ap (λ k. k .sequence .0) e),
+  );
 }
 
 pub counts-kind : (kind : ℕ) (s : Slice) → counts kind s ≡ true → s .kind ≡ kind
@@ -36,7 +41,8 @@ unfolding counts
 counts-kind kind s h = eqb-true (s .kind) kind (and-both (eqb (s .kind) kind) (not (s .cancelled)) h .0)
 
 -- two counted slices of one kind and one sequence number are one
-pub counted-one : (kind : ℕ) (slices : List Slice) → Rising sliceKey keyLess sameKey slices → (a b : Slice) → In a slices → In b slices
+pub counted-one : (kind : ℕ) (slices : List Slice) → Rising sliceKey keyLess sameKey slices → (a b : Slice) → In a slices
+    → In b slices
     → counts kind a ≡ true → counts kind b ≡ true → a .sequence ≡ b .sequence → a ≡ b
 counted-one kind slices up a b m n c d e =
     rising-one sliceKey keyLess sameKey key-order slices up a b m n (key-of (counts-kind kind a c ∙ sym (counts-kind kind b d)))

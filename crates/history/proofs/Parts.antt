@@ -29,7 +29,8 @@ use Rattle.history.proofs.Orders.{turn-order}
 
 -- ---- the last of some slices that passes a test
 module _ (test : Slice → Bool) where
-  last-from : (o : Option Slice) (ds : List Slice) (b : Slice) → lastOf test o ds ≡ some b → (o ≡ some b) ⊎ (In b ds × (test b ≡ true))
+  last-from : (o : Option Slice) (ds : List Slice) (b : Slice) → lastOf test o ds ≡ some b
+      → (o ≡ some b) ⊎ (In b ds × (test b ≡ true))
   last-from o [] b e = inl e
   last-from o (d ∷ ds) b e = ⊎-elim here (λ (m, t). inr (inr m, t)) (last-from (cond (test d) (some d) o) ds b e)
     where
@@ -60,7 +61,8 @@ last-or test o (d ∷ ds) =
     (λ n. rw n (last-or test o ds))
 
 -- one test for another that tells the same
-pub last-same : (f g : Slice → Bool) → ((d : Slice) → f d ≡ g d) → (o : Option Slice) (ds : List Slice) → lastOf f o ds ≡ lastOf g o ds
+pub last-same : (f g : Slice → Bool) → ((d : Slice) → f d ≡ g d) → (o : Option Slice) (ds : List Slice)
+    → lastOf f o ds ≡ lastOf g o ds
 last-same f g h o ds = ap (λ f. lastOf f o ds) (fun-ext h)
 
 -- the first eight parts are the properties
@@ -84,7 +86,8 @@ newer-unmentioned : (v : Property) → newer v unmentioned ≡ v
 newer-unmentioned unmentioned = refl
 newer-unmentioned (says v) = refl
 
-over-at : (news olds : List Property) (p : ℕ) → getD (over news olds) p unmentioned ≡ newer (getD news p unmentioned) (getD olds p unmentioned)
+over-at : (news olds : List Property) (p : ℕ)
+    → getD (over news olds) p unmentioned ≡ newer (getD news p unmentioned) (getD olds p unmentioned)
 over-at [] olds p = refl
 over-at (n ∷ news) [] p = sym (newer-unmentioned (getD (n ∷ news) p unmentioned))
 over-at (n ∷ news) (o ∷ olds) zero = refl
@@ -124,14 +127,17 @@ module _ (time : Life → Instant) where
   timeIn none = noTime
   timeIn (some d) = time (d .life)
 
-  time-step : (d : Slice) (o : Option Slice) (old : Instant) → old ≡ timeIn o → newTime (time (d .life)) old ≡ timeIn (cond (given (time (d .life))) (some d) o)
+  time-step : (d : Slice) (o : Option Slice) (old : Instant) → old ≡ timeIn o
+      → newTime (time (d .life)) old ≡ timeIn (cond (given (time (d .life))) (some d) o)
   unfolding newTime
   time-step d o old h = by-test (isNone (time (d .life))) (λ y. rw y h) (λ n. rw n)
 
   line-time : ((s : State) (d : Slice) → time (applied s d .life) ≡ newTime (time (d .life)) (time (s .life)))
-      → (a : Slice) (ds : List Slice) → time (appliedAll (started a) ds .life) ≡ timeIn (lastOf (λ d. given (time (d .life))) none (a ∷ ds))
+      → (a : Slice) (ds : List Slice)
+      → time (appliedAll (started a) ds .life) ≡ timeIn (lastOf (λ d. given (time (d .life))) none (a ∷ ds))
   line-time replaced a ds =
-      part-last (λ s. time (s .life)) timeIn (λ d. given (time (d .life))) (λ s d o h. replaced s d ∙ time-step d o (time (s .life)) h)
+      part-last (λ s. time (s .life)) timeIn (λ d. given (time (d .life)))
+      (λ s d o h. replaced s d ∙ time-step d o (time (s .life)) h)
       ds (started a) (cond (given (time (a .life))) (some a) none) (time-first (time (a .life)) ∙ time-step a none noTime refl)
 
 abbrev pub beginIn : Option Slice → Instant
@@ -155,15 +161,18 @@ over-length [] olds e = refl
 over-length (n ∷ news) [] e = e
 over-length (n ∷ news) (o ∷ olds) e = ap suc (over-length news olds (omega arith))
 
-pub applied-length : (n : ℕ) (ds : List Slice) (s : State) → length (s .properties) ≡ n → ((d : Slice) → In d ds → length (d .properties) ≡ n)
+pub applied-length : (n : ℕ) (ds : List Slice) (s : State) → length (s .properties) ≡ n
+    → ((d : Slice) → In d ds → length (d .properties) ≡ n)
     → length (appliedAll s ds .properties) ≡ n
 unfolding applied
 applied-length n [] s e h = e
 applied-length n (d ∷ ds) s e h =
-    applied-length n ds (applied s d) (over-length (d .properties) (s .properties) (h d (inl refl) ∙ sym e) ∙ e) (λ x m. h x (inr m))
+    applied-length n ds (applied s d) (over-length (d .properties) (s .properties) (h d (inl refl) ∙ sym e) ∙ e)
+    (λ x m. h x (inr m))
 
 -- ---- which slices apply
-pub following-in : (t : Instant) (slices : List Slice) (a : Anchor) (d : Slice) → In d (following t slices a) → In d slices × (follows t a d ≡ true)
+pub following-in : (t : Instant) (slices : List Slice) (a : Anchor) (d : Slice) → In d (following t slices a)
+    → In d slices × (follows t a d ≡ true)
 unfolding following
 following-in t slices a d m =
     kept-in (follows t a) slices d .0 (sorted-within turnOf turnLess sameTurn turn-order (kept (follows t a) slices) d m)

@@ -1,5 +1,5 @@
--- DEMAND 3, SECOND HALF, on lists of slices: the answer at t goes by the slices in whose reach t lies, and a slice that is put changes
--- those only within its own reach and that of the one it replaces. Assumes nothing.
+-- DEMAND 3, SECOND HALF, on lists of slices: the answer at t goes by the slices in whose reach t lies, and a slice that is put
+-- changes those only within its own reach and that of the one it replaces. Assumes nothing.
 use mathlib.Core.Path.{_≡_, refl, sym, ap, ap₂, _∙_, fun-ext}
 use mathlib.Core.List.{List, _∷_}
 use mathlib.Core.Bool.{Bool, true, false, _&&_, or-true}
@@ -16,7 +16,8 @@ use Rattle.history.specs.Counted.{counts, holds, sliceKey}
 use Rattle.history.specs.Period.{until, baselineReach}
 use Rattle.history.specs.Anchor.{stands, opens, Anchor, based, opened, nowhere, two, only, anchor}
 use Rattle.history.specs.State.{started, appliedAll}
-use Rattle.history.specs.Permanent.{turnOf, turnLess, sameTurn, after, follows, following, unlessWithdrawn, reached, standingFrom, permanentAt}
+use Rattle.history.specs.Permanent.{turnOf, turnLess, sameTurn, after, follows, following, unlessWithdrawn, reached}
+use Rattle.history.specs.Permanent.{standingFrom, permanentAt}
 use Rattle.history.specs.Snapshot.{valid, sequenceIn, passing, overlaid, snapshotAt}
 use Rattle.history.specs.Source.{lineFrom, line}
 use Rattle.history.specs.Reach.{reaches}
@@ -101,10 +102,12 @@ line-reach t rs rs' p = sym (line-near t rs) ∙ ap (line t) p ∙ line-near t r
 pub passing-reach : (t : Instant) (ts ts' : List Slice) → kept (reaches t) ts ≡ kept (reaches t) ts' → passing t ts ≡ passing t ts'
 passing-reach t ts ts' q = sym (passing-near t ts) ∙ ap (passing t) q ∙ passing-near t ts'
 
-pub permanent-reach : (t : Instant) (rs rs' : List Slice) → kept (reaches t) rs ≡ kept (reaches t) rs' → permanentAt t rs ≡ permanentAt t rs'
+pub permanent-reach : (t : Instant) (rs rs' : List Slice) → kept (reaches t) rs ≡ kept (reaches t) rs'
+    → permanentAt t rs ≡ permanentAt t rs'
 permanent-reach t rs rs' p = sym (permanent-near t rs) ∙ ap (permanentAt t) p ∙ permanent-near t rs'
 
-pub snapshot-reach : (t : Instant) (rs rs' ts ts' : List Slice) → kept (reaches t) rs ≡ kept (reaches t) rs' → kept (reaches t) ts ≡ kept (reaches t) ts'
+pub snapshot-reach : (t : Instant) (rs rs' ts ts' : List Slice) → kept (reaches t) rs ≡ kept (reaches t) rs'
+    → kept (reaches t) ts ≡ kept (reaches t) ts'
     → snapshotAt t rs ts ≡ snapshotAt t rs' ts'
 unfolding snapshotAt
 snapshot-reach t rs rs' ts ts' p q =

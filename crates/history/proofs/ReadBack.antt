@@ -15,11 +15,13 @@ use Rattle.slice.specs.Record.{baseline, permdelta, Slice}
 use Rattle.history.specs.Counted.{counts, holds}
 use Rattle.history.specs.Anchor.{stands, opens, Anchor, based, opened, nowhere, two, only, anchor}
 use Rattle.history.specs.State.{State, started, appliedAll}
-use Rattle.history.specs.Permanent.{follows, following, Standing, refuses, known, withdrawn, unlessWithdrawn, reached, standingFrom, permanentAt}
+use Rattle.history.specs.Permanent.{follows, following, Standing, refuses, known, withdrawn, unlessWithdrawn, reached}
+use Rattle.history.specs.Permanent.{standingFrom, permanentAt}
 use Rattle.history.specs.Changes.{changeInstants, nextOf}
-use Rattle.history.specs.Derived.{hasTwo, twoAnchors, Stretch, stretch, stretchesFrom, stretches, baselineOf, numberedFrom, derivedBaselines, asWritten, readBack}
+use Rattle.history.specs.Derived.{hasTwo, twoAnchors, Stretch, stretch, stretchesFrom, stretches, baselineOf, numberedFrom}
+use Rattle.history.specs.Derived.{derivedBaselines, asWritten, readBack}
 use Rattle.history.proofs.Line.{known-apart, known-same}
-use Rattle.history.proofs.Kept.{kept-same, kept-none, kept-append, append-in}
+use Rattle.history.proofs.Selection.{kept-same, kept-none, kept-append, append-in}
 use Rattle.history.proofs.Changes.{Risen, changes-rising, next-in, next-least}
 use Rattle.history.proofs.Periods.{until-derived}
 use Rattle.history.proofs.Steady.{Timely, Alike, permanent-same, permanent-none}
@@ -52,7 +54,8 @@ module _ (slices : List Slice) (t : Instant) where
   unfolding holds atMost
   none-early us early =
       kept-none (current t) (stretchesFrom slices us)
-      (λ s m. let p : atMost (s .period .begin) t ≡ false = omega (tests, early (s .period .begin) (stretched slices us s m .begins)) in rw p)
+      (λ s m. let p : atMost (s .period .begin) t ≡ false =
+      omega (tests, early (s .period .begin) (stretched slices us s m .begins)) in rw p)
 
   first-kept : (u : Instant) (us : List Instant) (b : Bool) → holds t u (nextOf us) ≡ b
       → kept (current t) (stretchesFrom slices (u ∷ us))
@@ -61,7 +64,8 @@ module _ (slices : List Slice) (t : Instant) where
       kept-append (current t) (stretch u (nextOf us) (permanentAt u slices)) (stretchesFrom slices us)
       ∙ ap (λ l. l ++ kept (current t) (stretchesFrom slices us)) (go (permanentAt u slices) b e)
     where
-      go : (v : Standing) (b : Bool) → holds t u (nextOf us) ≡ b → kept (current t) (stretch u (nextOf us) v) ≡ cond b (stretch u (nextOf us) v) []
+      go : (v : Standing) (b : Bool) → holds t u (nextOf us) ≡ b
+          → kept (current t) (stretch u (nextOf us) v) ≡ cond b (stretch u (nextOf us) v) []
       go (refuses n) true e = refl
       go (refuses n) false e = refl
       go (known s) b e = rw e
@@ -102,7 +106,8 @@ module _ (slices : List Slice) (t : Instant) where
         next = nextOf us;
         one = inl refl;
         by = l;
-        alike = λ x. ⊎-elim (λ e. both x u (omega (tests, ap (λ i. i .0) e)) (omega (tests, ap (λ i. i .0) e))) (λ m. neither x u (early x m) (omega (tests, low x m)));
+        alike = λ x. ⊎-elim (λ e. both x u (omega (tests, ap (λ i. i .0) e)) (omega (tests, ap (λ i. i .0) e)))
+            (λ m. neither x u (early x m) (omega (tests, low x m)));
         alone = let p : atMost u t ≡ true = omega tests in
             let first = stretch u (nextOf us) (permanentAt u slices) in
             first-kept u us true (rw (p, runs-on us early)) ∙ ap (λ k. first ++ k) (none-early us early) ∙ append-nil first;
@@ -112,7 +117,9 @@ module _ (slices : List Slice) (t : Instant) where
         next = h .next;
         one = inr (h .one);
         by = h .by;
-        alike = λ x. ⊎-elim (λ e. both x (h .from) (omega (tests, ap (λ i. i .0) e)) (omega (tests, low (h .from) (h .one), ap (λ i. i .0) e))) (h .alike x);
+        alike = λ x. ⊎-elim
+            (λ e. both x (h .from) (omega (tests, ap (λ i. i .0) e)) (omega (tests, low (h .from) (h .one), ap (λ i. i .0) e)))
+            (h .alike x);
         alone = let p : before t (nextOf us) ≡ false = omega (tests, h .by, next-least us up (h .from) (h .one)) in
             first-kept u us false (rw p (and-false (atMost u t))) ∙ h .alone;
       }
@@ -129,7 +136,8 @@ lone t (s ∷ []) = unlessWithdrawn t s
 lone t (s ∷ s' ∷ ss) = refuses 21
 
 module _ (unknown : List ℕ) where
-  pub numbered-in : (n : ℕ) (l : List Stretch) (b : Slice) → In b (numberedFrom unknown n l) → (k : ℕ) × (s : Stretch) × In s l × (b ≡ baselineOf unknown k s)
+  pub numbered-in : (n : ℕ) (l : List Stretch) (b : Slice) → In b (numberedFrom unknown n l)
+      → (k : ℕ) × (s : Stretch) × In s l × (b ≡ baselineOf unknown k s)
   numbered-in n (s ∷ l) b (inl e) = (n, s, inl refl, e)
   numbered-in n (s ∷ l) b (inr m) = let (k, x, i, e) = numbered-in (suc n) l b m in (k, x, inr i, e)
 
@@ -170,7 +178,8 @@ module _ (unknown : List ℕ) where
     derived-at =
         ap (λ os. standingFrom t derived (only based (only opened nowhere os) (kept (stands derived t) derived))) derived-opens
         ∙ derived-anchored (kept (stands derived t) derived)
-        ∙ ap (λ l. lone t (map started l)) (kept-same (stands derived t) (holding t) derived (λ b m. rw (until-derived unknown slices b m)))
+        ∙ ap (λ l. lone t (map started l))
+        (kept-same (stands derived t) (holding t) derived (λ b m. rw (until-derived unknown slices b m)))
         ∙ ap (lone t) (numbered-kept t 1 (stretches slices))
 
 -- ---- a state that is known is not withdrawn
@@ -194,7 +203,8 @@ known-stays t slices s = go (anchor t slices)
 pub read-back : (unknown : List ℕ) (slices : List Slice) → Timely slices → (t : Instant) → t .0 < noInstant
     → permanentAt t (derivedBaselines unknown slices) ≡ readBack unknown (permanentAt t slices)
 unfolding stretches unlessWithdrawn withdrawn asWritten
-read-back unknown slices ok t lt = derived-at unknown slices t ∙ go (settle slices t lt (changeInstants slices) (changes-rising slices))
+read-back unknown slices ok t lt =
+    derived-at unknown slices t ∙ go (settle slices t lt (changeInstants slices) (changes-rising slices))
   where
     said : List Stretch → Standing
     said l = lone t (map (λ s. asWritten unknown (s .state)) l)
@@ -206,14 +216,17 @@ read-back unknown slices ok t lt = derived-at unknown slices t ∙ go (settle sl
     one u e (refuses n) q = refl
     one u e (known s) q = written s (known-stays t slices s q)
 
-    go : Settled slices t (changeInstants slices) → said (kept (current t) (stretches slices)) ≡ readBack unknown (permanentAt t slices)
-    go (inl early) = ap said (none-early slices t (changeInstants slices) early) ∙ sym (ap (readBack unknown) (permanent-none slices t lt early))
+    go : Settled slices t (changeInstants slices)
+        → said (kept (current t) (stretches slices)) ≡ readBack unknown (permanentAt t slices)
+    go (inl early) = ap said (none-early slices t (changeInstants slices) early)
+        ∙ sym (ap (readBack unknown) (permanent-none slices t lt early))
     go (inr h) =
         let same = permanent-same slices ok t (h .from) lt (omega (tests, h .by)) (h .alike) in
         ap said (h .alone) ∙ one (h .from) (h .next) (permanentAt (h .from) slices) same ∙ sym (ap (readBack unknown) same)
 
 -- where no change instant has two anchors, no instant has
-pub no-two : (slices : List Slice) → Timely slices → twoAnchors slices ≡ false → (t : Instant) → t .0 < noInstant → hasTwo (permanentAt t slices) ≡ false
+pub no-two : (slices : List Slice) → Timely slices → twoAnchors slices ≡ false → (t : Instant) → t .0 < noInstant
+    → hasTwo (permanentAt t slices) ≡ false
 unfolding twoAnchors
 no-two slices ok none-two t lt = go (settle slices t lt (changeInstants slices) (changes-rising slices))
   where

@@ -14,13 +14,14 @@ use Rattle.history.specs.Counted.{counts, holds}
 use Rattle.history.specs.Period.{until}
 use Rattle.history.specs.Anchor.{stands, opens, Anchor, based, opened, nowhere, two, only, anchor}
 use Rattle.history.specs.State.{State, started, appliedAll}
-use Rattle.history.specs.Permanent.{turnOf, turnLess, sameTurn, after, follows, following, refuses, known, withdrawn, unlessWithdrawn, reached, standingFrom, permanentAt}
+use Rattle.history.specs.Permanent.{turnOf, turnLess, sameTurn, after, follows, following, refuses, known, withdrawn}
+use Rattle.history.specs.Permanent.{unlessWithdrawn, reached, standingFrom, permanentAt}
 use Rattle.history.specs.Source.{lastOf, lineFrom, line}
 use Rattle.history.specs.Parts.{tells}
 use Rattle.history.specs.Changes.{changeInstants}
 use Rattle.history.proofs.Parts.{last-in, endIn, line-end, following-in}
 use Rattle.history.proofs.Line.{Within, anchor-within, known-line}
-use Rattle.history.proofs.Kept.{and-under, kept-same, kept-none}
+use Rattle.history.proofs.Selection.{and-under, kept-same, kept-none}
 use Rattle.history.proofs.Changes.{Changing, begin-changing, life-changing, delta-changing}
 use Rattle.history.proofs.Periods.{until-changing}
 
@@ -76,7 +77,8 @@ none-late : (x t : Instant) → x ≡ noTime → t .0 < noInstant → atMost x t
 unfolding atMost
 none-late x t e l = omega (tests, ap (λ i. i .0) e)
 
-module _ (slices : List Slice) (ok : Timely slices) (t u : Instant) (lt : t .0 < noInstant) (lu : u .0 < noInstant) (alike : Alike (changeInstants slices) t u) where
+module _ (slices : List Slice) (ok : Timely slices) (t u : Instant) (lt : t .0 < noInstant) (lu : u .0 < noInstant)
+    (alike : Alike (changeInstants slices) t u) where
   most-same : (x : Instant) → Changing slices x → atMost x t ≡ atMost x u
   most-same x (inl e) = none-late x t e lt ∙ sym (none-late x u e lu)
   most-same x (inr m) = alike x m
@@ -88,16 +90,20 @@ module _ (slices : List Slice) (ok : Timely slices) (t u : Instant) (lt : t .0 <
   unfolding stands holds
   stands-same b m =
       and-under (counts baseline b)
-      (λ c. ap₂ _&&_ (most-same (b .period .begin) (begin-changing slices b m c)) (before-same (until slices b) (until-changing slices b m c)))
+      (λ c. ap₂ _&&_ (most-same (b .period .begin) (begin-changing slices b m c))
+      (before-same (until slices b) (until-changing slices b m c)))
 
   opens-same : (d : Slice) → In d slices → opens t d ≡ opens u d
   unfolding opens
   opens-same d m =
-      and-under (counts permdelta d) (λ c. ap (λ (y : Bool). given (d .life .begin) && y) (most-same (d .period .begin) (delta-changing slices d m c)))
+      and-under (counts permdelta d)
+      (λ c. ap (λ (y : Bool). given (d .life .begin) && y) (most-same (d .period .begin) (delta-changing slices d m c)))
 
   follows-same : (a : Anchor) (d : Slice) → In d slices → follows t a d ≡ follows u a d
   unfolding follows
-  follows-same a d m = and-under (counts permdelta d) (λ c. ap (λ (y : Bool). y && after a d) (most-same (d .period .begin) (delta-changing slices d m c)))
+  follows-same a d m =
+      and-under (counts permdelta d)
+      (λ c. ap (λ (y : Bool). y && after a d) (most-same (d .period .begin) (delta-changing slices d m c)))
 
   anchor-same : anchor t slices ≡ anchor u slices
   unfolding anchor
@@ -110,8 +116,10 @@ module _ (slices : List Slice) (ok : Timely slices) (t u : Instant) (lt : t .0 <
   unfolding reached following unlessWithdrawn withdrawn
   reached-same a s h =
       let made = appliedAll (started s) (following t slices a) in
-      ap (λ (y : Bool). cond (given (made .life .end) && y) (refuses 22) (known made)) (most-same (made .life .end) (made-life slices ok t s (following t slices a) h))
-      ∙ ap (λ ds. unlessWithdrawn u (appliedAll (started s) (sorted turnOf turnLess sameTurn ds))) (kept-same (follows t a) (follows u a) slices (follows-same a))
+      ap (λ (y : Bool). cond (given (made .life .end) && y) (refuses 22) (known made))
+      (most-same (made .life .end) (made-life slices ok t s (following t slices a) h))
+      ∙ ap (λ ds. unlessWithdrawn u (appliedAll (started s) (sorted turnOf turnLess sameTurn ds)))
+      (kept-same (follows t a) (follows u a) slices (follows-same a))
 
   from-same : (a : Anchor) → Within slices a → standingFrom t slices a ≡ standingFrom u slices a
   from-same (based b) w = reached-same (based b) b (line-life slices ok t (based b) w)
@@ -125,7 +133,8 @@ module _ (slices : List Slice) (ok : Timely slices) (t u : Instant) (lt : t .0 <
   permanent-same = from-same (anchor t slices) (anchor-within t slices) ∙ ap (standingFrom u slices) anchor-same
 
 -- ---- before the first change instant there is no state
-module _ (slices : List Slice) (t : Instant) (lt : t .0 < noInstant) (early : (x : Instant) → In x (changeInstants slices) → t .0 < x .0) where
+module _ (slices : List Slice) (t : Instant) (lt : t .0 < noInstant)
+    (early : (x : Instant) → In x (changeInstants slices) → t .0 < x .0) where
   not-yet : (x : Instant) → Changing slices x → atMost x t ≡ false
   unfolding atMost
   not-yet x (inl e) = none-late x t e lt
@@ -134,12 +143,14 @@ module _ (slices : List Slice) (t : Instant) (lt : t .0 < noInstant) (early : (x
   none-stands : (b : Slice) → In b slices → stands slices t b ≡ false
   unfolding stands holds
   none-stands b m =
-      and-under (counts baseline b) (λ c. rw (not-yet (b .period .begin) (begin-changing slices b m c))) ∙ and-false (counts baseline b)
+      and-under (counts baseline b) (λ c. rw (not-yet (b .period .begin) (begin-changing slices b m c)))
+      ∙ and-false (counts baseline b)
 
   none-opens : (d : Slice) → In d slices → opens t d ≡ false
   unfolding opens
   none-opens d m =
-      and-under (counts permdelta d) (λ c. rw (not-yet (d .period .begin) (delta-changing slices d m c)) (and-false (given (d .life .begin))))
+      and-under (counts permdelta d)
+      (λ c. rw (not-yet (d .period .begin) (delta-changing slices d m c)) (and-false (given (d .life .begin))))
       ∙ and-false (counts permdelta d)
 
   pub permanent-none : permanentAt t slices ≡ refuses 20

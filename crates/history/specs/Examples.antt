@@ -91,8 +91,8 @@ histories =
     ∷ ended
     ∷ []
 
--- what is derived of them: equal neighbours stay two, a property that nothing mentions is nil, unknown, and nothing is left of a change
--- that was cancelled; there is no record in the gap, and none from the life end on, which is a change instant
+-- what is derived of them: equal neighbours stay two, a property that nothing mentions is nil, unknown, and nothing is left of a
+-- change that was cancelled; there is no record in the gap, and none from the life end on, which is a change instant
 examples : map (derivedBaselines unknown) histories
     ≡ (derived 1 10 never red ∷ [])
     ∷ (derived 1 10 20 red ∷ derived 2 20 never blue ∷ [])
@@ -115,7 +115,8 @@ abbrev state : ℕ → Standing
 state gone =
     known (record { life = record { begin = record { 0 = 10 }; end = record { 0 = gone } }; properties = says red ∷ says red ∷ [] })
 
--- before the first BASELINE, in it, at the gap's begin and at its last instant, in the second; then before the life end and from it on
+-- before the first BASELINE, in it, at the gap's begin and at its last instant, in the second; then before the life end and from it
+-- on
 standings : map (at gap) (9 ∷ 10 ∷ 20 ∷ 29 ∷ 30 ∷ []) ++ map (at ended) (29 ∷ 30 ∷ 31 ∷ [])
     ≡ refuses 20 ∷ state never ∷ refuses 20 ∷ refuses 20 ∷ state never ∷ state 30 ∷ refuses 22 ∷ refuses 22 ∷ []
 unfolding instants

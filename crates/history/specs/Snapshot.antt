@@ -12,7 +12,8 @@ use Rattle.history.specs.Counted.{counts, holds}
 use Rattle.history.specs.Period.{periods}
 use Rattle.history.specs.Anchor.{stands, opens, anchor}
 use Rattle.history.specs.State.{newTime, applied, appliedAll}
-use Rattle.history.specs.Permanent.{turnLess, sameTurn, follows, following, Standing, refuses, known, withdrawn, unlessWithdrawn, reached, permanentAt}
+use Rattle.history.specs.Permanent.{turnLess, sameTurn, follows, following, Standing, refuses, known, withdrawn}
+use Rattle.history.specs.Permanent.{unlessWithdrawn, reached, permanentAt}
 
 -- a TEMPDELTA with begin at most t and t before end
 unfoldable pub valid : Instant → Slice → Bool
@@ -36,5 +37,6 @@ snapshotAt t permanents temporaries = overlaid (passing t temporaries) (permanen
 
 -- `unfolding instants` opens every definition that a snapshot computes by
 unfoldable pub instants : Unit {0}
-unfolding counts holds periods stands opens anchor newTime applied turnLess sameTurn follows following withdrawn unlessWithdrawn reached permanentAt valid passing snapshotAt lexLess numbers
+unfolding counts holds periods stands opens anchor newTime applied turnLess sameTurn follows following withdrawn unlessWithdrawn
+    reached permanentAt valid passing snapshotAt lexLess numbers
 instants = tt

@@ -62,7 +62,8 @@ each-all test zero at h = refl
 each-all test (suc n) at h = rw (each-all test n at (λ i l. h i (omega arith)), h n (omega arith))
 
 -- two runs whose places are tested alike
-pub each-same : (test test' : ℕ → Bool) (n at : ℕ) → ((i : ℕ) → i < n → test (at + i) ≡ test' (at + i)) → each test n at ≡ each test' n at
+pub each-same : (test test' : ℕ → Bool) (n at : ℕ) → ((i : ℕ) → i < n → test (at + i) ≡ test' (at + i))
+    → each test n at ≡ each test' n at
 each-same test test' zero at h = refl
 each-same test test' (suc n) at h = rw (each-same test test' n at (λ i l. h i (omega arith)), h n (omega arith))
 
@@ -104,7 +105,8 @@ digits-join f n zero at = rw (add-zero n) (omega arith)
 digits-join f n (suc k) at =
     let e : n + suc k ≡ suc (n + k) = omega arith in
     let g : at + (n + k) ≡ at + n + k = omega arith in
-    let up : digits f n at * 256 ^ suc k ≡ digits f n at * 256 ^ k * 256 = rw pow-suc (sym (mul-assoc (digits f n at) (256 ^ k) 256)) in
+    let up : digits f n at * 256 ^ suc k ≡ digits f n at * 256 ^ k * 256 =
+    rw pow-suc (sym (mul-assoc (digits f n at) (256 ^ k) 256)) in
     rw (e, g) (omega (arith, digits-join f n k at))
 
 zero-digits : (n at : ℕ) → digits (λ _. 0) n at ≡ 0
@@ -121,10 +123,12 @@ below-is d p x h =
 
 module _ (s : List ℕ) (at : ℕ) (bytes : Bytes s) (h : at + 8 ≤ length s) where
   -- the byte at each place is that of f
-  low : (f : ℕ → ℕ) → ((i : ℕ) → f i < 256) → each (λ i. eqb (byteOf s i) (f i)) 8 at ≡ eqb (leOf 8 s at) (digits (λ i. f (at + (7 - i))) 8 0)
+  low : (f : ℕ → ℕ) → ((i : ℕ) → f i < 256)
+      → each (λ i. eqb (byteOf s i) (f i)) 8 at ≡ eqb (leOf 8 s at) (digits (λ i. f (at + (7 - i))) 8 0)
   low f small =
       sym (rw (le-whole 8 s at h)
-      (same-digits (λ i. byteOf s (at + (7 - i))) (λ i. f (at + (7 - i))) (λ i. bytes (at + (7 - i))) (λ i. small (at + (7 - i))) 8 0)
+      (same-digits (λ i. byteOf s (at + (7 - i))) (λ i. f (at + (7 - i))) (λ i. bytes (at + (7 - i)))
+      (λ i. small (at + (7 - i))) 8 0)
       ∙ each-mirror (λ j. eqb (byteOf s j) (f j)) 0 8 7 at refl
       ∙ ap (λ (k : ℕ). each (λ i. eqb (byteOf s i) (f i)) 8 k) (add-zero at))
 
@@ -133,7 +137,8 @@ module _ (s : List ℕ) (at : ℕ) (bytes : Bytes s) (h : at + 8 ≤ length s) w
   low-is v small = low (λ _. v) (λ _. small)
 
   -- the bytes are those of another list
-  pub low-same : (t : List ℕ) → Bytes t → at + 8 ≤ length t → each (λ i. eqb (byteOf s i) (byteOf t i)) 8 at ≡ eqb (leOf 8 s at) (leOf 8 t at)
+  pub low-same : (t : List ℕ) → Bytes t → at + 8 ≤ length t
+      → each (λ i. eqb (byteOf s i) (byteOf t i)) 8 at ≡ eqb (leOf 8 s at) (leOf 8 t at)
   low-same t bytes' h' = rw (le-whole 8 t at h') (low (byteOf t) bytes')
 
   -- the last n of them are 0, from k behind on
@@ -142,7 +147,8 @@ module _ (s : List ℕ) (at : ℕ) (bytes : Bytes s) (h : at + 8 ≤ length s) w
   past k n e =
       let f : ℕ → ℕ = λ i. byteOf s (at + (7 - i)) in
       let eight : 8 ≡ n + k = omega arith in
-      let split : leOf 8 s at ≡ digits f n 0 * 256 ^ k + digits f k (0 + n) = le-whole 8 s at h ∙ ap (λ (m : ℕ). digits f m 0) eight ∙ digits-join f n k 0 in
+      let split : leOf 8 s at ≡ digits f n 0 * 256 ^ k + digits f k (0 + n) = le-whole 8 s at h ∙ ap (λ (m : ℕ). digits f m 0) eight
+      ∙ digits-join f n k 0 in
       ap (λ (x : ℕ). ltb x (256 ^ k)) split
       ∙ below-is (digits f n 0) (256 ^ k) (digits f k (0 + n)) (digits-below f (λ i. bytes (at + (7 - i))) k (0 + n))
       ∙ ap (eqb (digits f n 0)) (sym (zero-digits n 0))
@@ -169,7 +175,8 @@ unfolding filled
 filled-short v n s at all told failed = rw (sym told ∙ failed)
 
 -- n bytes behind k others, where not all of these are there
-pub filled-not-there : (k n : ℕ) (s : List ℕ) (at : ℕ) (all : Bool) → all ≡ there (k + n) s at → all ≡ false → false ≡ filled 0 n s (at + k)
+pub filled-not-there : (k n : ℕ) (s : List ℕ) (at : ℕ) (all : Bool) → all ≡ there (k + n) s at → all ≡ false
+    → false ≡ filled 0 n s (at + k)
 unfolding filled
 filled-not-there k n s at all told failed =
     let e : at + (k + n) ≡ at + k + n = omega arith in
@@ -189,8 +196,11 @@ filled-join v m n s at = go (leb (at + m + n) (length s)) refl
     e = omega arith
 
     go : (b : Bool) → leb (at + m + n) (length s) ≡ b → (leb (at + (m + n)) (length s) && each (λ i. eqb (byteOf s i) v) (m + n) at)
-        ≡ ((leb (at + m) (length s) && each (λ i. eqb (byteOf s i) v) m at) && (leb (at + m + n) (length s) && each (λ i. eqb (byteOf s i) v) n (at + m)))
-    go true h = rw (e, h, le-leb (at + m) (length s) (omega (arith, leb-true (at + m + n) (length s) h))) (each-join (λ i. eqb (byteOf s i) v) m n at)
+        ≡ ((leb (at + m) (length s) && each (λ i. eqb (byteOf s i) v) m at)
+        && (leb (at + m + n) (length s) && each (λ i. eqb (byteOf s i) v) n (at + m)))
+    go true h =
+        rw (e, h, le-leb (at + m) (length s) (omega (arith, leb-true (at + m + n) (length s) h)))
+        (each-join (λ i. eqb (byteOf s i) v) m n at)
     go false h = rw (e, h) (sym (and-false (leb (at + m) (length s) && each (λ i. eqb (byteOf s i) v) m at)))
 
 -- ---- equal runs
@@ -198,16 +208,19 @@ pub same-bytes : (a b : List ℕ) → sameBytes a b ≡ true → a ≡ b
 unfolding sameBytes
 same-bytes a b h =
     let p = and-both (eqb (length a) (length b)) (each (λ i. eqb (byteOf a i) (byteOf b i)) (length a) 0) h in
-    ext-getD 0 a b (eqb-true _ _ (p .0)) (λ i l. eqb-true _ _ (rw zero-add at (each-at (λ i. eqb (byteOf a i) (byteOf b i)) (length a) 0 (p .1) i l)))
+    ext-getD 0 a b (eqb-true _ _ (p .0))
+    (λ i l. eqb-true _ _ (rw zero-add at (each-at (λ i. eqb (byteOf a i) (byteOf b i)) (length a) 0 (p .1) i l)))
 
 pub bytes-same : (a b : List ℕ) → a ≡ b → sameBytes a b ≡ true
 unfolding sameBytes
 bytes-same a b e =
-    rw (← e, eq-eqb (length a) (length a) refl) (each-all (λ i. eqb (byteOf a i) (byteOf a i)) (length a) 0 (λ i l. eq-eqb (byteOf a (0 + i)) (byteOf a (0 + i)) refl))
+    rw (← e, eq-eqb (length a) (length a) refl)
+    (each-all (λ i. eqb (byteOf a i) (byteOf a i)) (length a) 0 (λ i l. eq-eqb (byteOf a (0 + i)) (byteOf a (0 + i)) refl))
 
 -- ---- runs of a part
 -- the n places from k + at on, of a list that starts at k
-each-shift : (test test' : ℕ → Bool) (k : ℕ) → ((i : ℕ) → test i ≡ test' (k + i)) → (n at : ℕ) → each test n at ≡ each test' n (k + at)
+each-shift : (test test' : ℕ → Bool) (k : ℕ) → ((i : ℕ) → test i ≡ test' (k + i)) → (n at : ℕ)
+    → each test n at ≡ each test' n (k + at)
 each-shift test test' k same zero at = refl
 each-shift test test' k same (suc n) at =
     let e : k + (at + n) ≡ k + at + n = omega arith in
@@ -219,4 +232,5 @@ filled-drop v n s k at h =
     let there-same : leb (at + n) (length (drop k s)) ≡ leb (k + at + n) (length s) =
     rw (length-drop k s) (iff (leb (at + n) (length s - k)) (leb (k + at + n) (length s)) (λ e. omega tests) (λ e. omega tests)) in
     rw there-same (ap (λ (b : Bool). leb (k + at + n) (length s) && b)
-    (each-shift (λ i. eqb (byteOf (drop k s) i) v) (λ i. eqb (byteOf s i) v) k (λ i. ap (λ (x : ℕ). eqb x v) (getD-drop k s i 0)) n at))
+    (each-shift (λ i. eqb (byteOf (drop k s) i) v) (λ i. eqb (byteOf s i) v) k
+    (λ i. ap (λ (x : ℕ). eqb x v) (getD-drop k s i 0)) n at))

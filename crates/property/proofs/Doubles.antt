@@ -42,4 +42,5 @@ module _ (y : ℕ) (h : y < 0x8000_0000_0000_0000) where
 -- below it, the finite ones
 pub finite-below : (b : ℕ) → ltb (b % 0x8000_0000_0000_0000) 0x7ff0_0000_0000_0000 ≡ finite (ofBits binary64 b)
 unfolding ofBits
-finite-below b = by-exponent (b % 0x8000_0000_0000_0000) (omega arith) _ refl ∙ sym (fields (leb 0x8000_0000_0000_0000 b) (b % 0x8000_0000_0000_0000 / 0x10_0000_0000_0000) (b % 0x10_0000_0000_0000))
+finite-below b = by-exponent (b % 0x8000_0000_0000_0000) (omega arith) _ refl
+    ∙ sym (fields (leb 0x8000_0000_0000_0000 b) (b % 0x8000_0000_0000_0000 / 0x10_0000_0000_0000) (b % 0x10_0000_0000_0000))

@@ -43,7 +43,8 @@ pub found-end : (i m : ℕ) → foundFrom i m [] ≡ Mentions m
 found-end i m = rw add-zero
 
 -- the properties from the i-th on begin with the i-th
-pieces-on : (stride i : ℕ) (l : List ℕ) → i < 8 → pieces stride (8 - i) l ≡ take stride l ∷ pieces stride (8 - (i + 1)) (drop stride l)
+pieces-on : (stride i : ℕ) (l : List ℕ) → i < 8
+    → pieces stride (8 - i) l ≡ take stride l ∷ pieces stride (8 - (i + 1)) (drop stride l)
 pieces-on stride i l h = let e : 8 - i ≡ suc (8 - (i + 1)) = omega arith in rw e
 
 -- a property is mentioned where its value is a mention
@@ -104,7 +105,8 @@ sound : (b : Bool) (i m n : ℕ) → cond b (FirstBad i) (Mentions m) ≡ Mentio
 sound true i m n e = (cc, cc)
 sound false i m n e = (refl, cc)
 
-pub survey-bad : (stride : ℕ) (bytes : List ℕ) (i : ℕ) → surveyOf stride bytes ≡ FirstBad i → any breaks (propertiesOf stride bytes) ≡ true
+pub survey-bad : (stride : ℕ) (bytes : List ℕ) (i : ℕ) → surveyOf stride bytes ≡ FirstBad i
+    → any breaks (propertiesOf stride bytes) ≡ true
 unfolding surveyOf
 survey-bad stride bytes i e = bad _ _ _ i e
 

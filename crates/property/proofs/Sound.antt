@@ -13,7 +13,8 @@ use Rattle.octets.specs.Bytes.{byteOf, beOf, filled}
 use Rattle.octets.proofs.Readers.{be-whole}
 use Rattle.octets.proofs.Runs.{two-digits, filled-join}
 use Rattle.property.specs.Value.{detailNumber, mentions}
-use Rattle.property.specs.Layout.{unused, doubleAt, finite, degrees, only, withDetail, nils, inUnits, unmentionedOf, nilOf, codeOf, numberOf, lengthOf, pointOf, formReading, decodeOf}
+use Rattle.property.specs.Layout.{unused, doubleAt, finite, degrees, only, withDetail, nils, inUnits, unmentionedOf, nilOf}
+use Rattle.property.specs.Layout.{codeOf, numberOf, lengthOf, pointOf, formReading, decodeOf}
 use Rattle.property.specs.Eight.{isGood, isBroken}
 use Rattle.property.specs.declared.Value.{Value}
 use Rattle.property.specs.declared.Value.the-variants.{Unmentioned}
@@ -21,11 +22,13 @@ use Rattle.property.specs.declared.Decoded.{Decoded}
 use Rattle.property.specs.declared.Decoded.the-variants.{Good, Broken}
 
 -- each limit is one value, by its bits in the code and by its number in the definition
-pub ninety : (x : Float) → (le (neg (ofBits binary64 0x4056_8000_0000_0000)) x && le x (ofBits binary64 0x4056_8000_0000_0000)) ≡ degrees 90 x
+pub ninety : (x : Float)
+    → (le (neg (ofBits binary64 0x4056_8000_0000_0000)) x && le x (ofBits binary64 0x4056_8000_0000_0000)) ≡ degrees 90 x
 unfolding ofBits ofInt
 ninety x = refl
 
-pub one-eighty : (x : Float) → (le (neg (ofBits binary64 0x4066_8000_0000_0000)) x && le x (ofBits binary64 0x4066_8000_0000_0000)) ≡ degrees 180 x
+pub one-eighty : (x : Float)
+    → (le (neg (ofBits binary64 0x4066_8000_0000_0000)) x && le x (ofBits binary64 0x4066_8000_0000_0000)) ≡ degrees 180 x
 unfolding ofBits ofInt
 one-eighty x = refl
 
@@ -77,7 +80,8 @@ told-more n f x y b (same, none) =
     (λ e. rw e (same, λ l. none (omega arith)))
 
 -- form 0 is no mention
-told-mention : (f : ℕ) (u : Bool) (x y : Decoded) (b : Bool) → Told 1 f y b → (isGood (only u (cond (eqb f 0) x y)) && not (eqb f 0)) ≡ (u && b)
+told-mention : (f : ℕ) (u : Bool) (x y : Decoded) (b : Bool) → Told 1 f y b
+    → (isGood (only u (cond (eqb f 0) x y)) && not (eqb f 0)) ≡ (u && b)
 told-mention f u x y b (same, none) =
     by-test (eqb f 0)
     (λ e. rw (e, none (omega (arith, eqb-true f 0 e))) (and-false (isGood (only u x)) ∙ sym (and-false u)))
@@ -112,10 +116,13 @@ module _ (p : List ℕ) (bytes : (i : ℕ) → byteOf p i < 256) (h : length p �
   head-plain f = rw head (two-digits (byteOf p 0) f (byteOf p 1) 0 (bytes 1) (omega arith))
 
   -- a form with a detail from 1 on
-  head-among : (f n : ℕ) → n < 256 → (leb (f * 256 + 1) (beOf 2 p 0) && leb (beOf 2 p 0) (f * 256 + n)) ≡ (eqb (byteOf p 0) f && (leb 1 (byteOf p 1) && leb (byteOf p 1) n))
+  head-among : (f n : ℕ) → n < 256
+      → (leb (f * 256 + 1) (beOf 2 p 0) && leb (beOf 2 p 0) (f * 256 + n))
+      ≡ (eqb (byteOf p 0) f && (leb 1 (byteOf p 1) && leb (byteOf p 1) n))
   head-among f n l = rw head (go (byteOf p 0) (byteOf p 1) (bytes 1))
     where
-      go : (a d : ℕ) → d < 256 → (leb (f * 256 + 1) (a * 256 + d) && leb (a * 256 + d) (f * 256 + n)) ≡ (eqb a f && (leb 1 d && leb d n))
+      go : (a d : ℕ) → d < 256
+          → (leb (f * 256 + 1) (a * 256 + d) && leb (a * 256 + d) (f * 256 + n)) ≡ (eqb a f && (leb 1 d && leb d n))
       go a d k = by-test (eqb a f)
           (λ e. let same = eqb-true a f e in rw (e, same) (ap (λ (b : Bool × Bool). b .0 && b .1) (λ j. (low j, up j))))
           (λ e. rw e (away e))
@@ -129,7 +136,13 @@ module _ (p : List ℕ) (bytes : (i : ℕ) → byteOf p i < 256) (h : length p �
           away : eqb a f ≡ false → (leb (f * 256 + 1) (a * 256 + d) && leb (a * 256 + d) (f * 256 + n)) ≡ false
           away e = never (leb (f * 256 + 1) (a * 256 + d) && leb (a * 256 + d) (f * 256 + n)) (λ x.
               let q = and-both (leb (f * 256 + 1) (a * 256 + d)) (leb (a * 256 + d) (f * 256 + n)) x in
-              omega (arith, eqb-false a f e, leb-true (f * 256 + 1) (a * 256 + d) (q .0), leb-true (a * 256 + d) (f * 256 + n) (q .1)))
+              omega (
+                arith,
+                eqb-false a f e,
+                leb-true (f * 256 + 1) (a * 256 + d) (q .0),
+                leb-true (a * 256 + d) (f * 256 + n)
+                    (q .1),
+              ))
 
   -- ---- the forms
   -- one that leaves its detail unused
@@ -162,11 +175,15 @@ module _ (p : List ℕ) (bytes : (i : ℕ) → byteOf p i < 256) (h : length p �
   unfolding numberOf
   number-told = plain-told 3 (unused 12 23 p) _
 
-  pub length-told : ((leb 1025 (beOf 2 p 0) && leb (beOf 2 p 0) 1028) && (finite (doubleAt 8 p) && unused 16 23 p)) ≡ (eqb (byteOf p 0) 4 && isGood (lengthOf p))
+  pub length-told : ((leb 1025 (beOf 2 p 0) && leb (beOf 2 p 0) 1028) && (finite (doubleAt 8 p) && unused 16 23 p))
+      ≡ (eqb (byteOf p 0) 4 && isGood (lengthOf p))
   unfolding lengthOf
-  length-told = chosen-told 4 4 (omega arith) (finite (doubleAt 8 p) && unused 16 23 p) (inUnits (doubleAt 8 p)) (refl, (refl, (refl, (refl, tt)))) refl
+  length-told =
+      chosen-told 4 4 (omega arith) (finite (doubleAt 8 p) && unused 16 23 p) (inUnits (doubleAt 8 p))
+      (refl, (refl, (refl, (refl, tt)))) refl
 
-  pub point-told : (eqb (beOf 2 p 0) 1280 && (degrees 90 (doubleAt 8 p) && degrees 180 (doubleAt 16 p))) ≡ (eqb (byteOf p 0) 5 && isGood (pointOf p))
+  pub point-told : (eqb (beOf 2 p 0) 1280 && (degrees 90 (doubleAt 8 p) && degrees 180 (doubleAt 16 p)))
+      ≡ (eqb (byteOf p 0) 5 && isGood (pointOf p))
   unfolding pointOf
   point-told = plain-told 5 (degrees 90 (doubleAt 8 p) && degrees 180 (doubleAt 16 p)) _
 
@@ -176,7 +193,9 @@ module _ (p : List ℕ) (bytes : (i : ℕ) → byteOf p i < 256) (h : length p �
   mentioned-told =
       let f = byteOf p 0 in
       let five = told-more 5 f (pointOf p) Broken false (refl, λ _. refl) in
-      let from1 = told-more 1 f (nilOf p) _ _ (told-more 2 f (codeOf p) _ _ (told-more 3 f (numberOf p) _ _ (told-more 4 f (lengthOf p) _ _ five))) in
+      let from1 =
+      told-more 1 f (nilOf p) _ _
+      (told-more 2 f (codeOf p) _ _ (told-more 3 f (numberOf p) _ _ (told-more 4 f (lengthOf p) _ _ five))) in
       rw (eq-eqb (length p) 24 h) (told-mention f (unused 2 7 p) (unmentionedOf p) _ _ from1 ∙ simp (or-false, or-assoc))
 
 -- a reading that is no value
@@ -212,11 +231,15 @@ module _ (p : List ℕ) (h : length p ≡ 24) where
   unfolding decodeOf formReading unmentionedOf
   silent-told e s =
       let f : eqb (byteOf p 0) 0 ≡ true = not-false (eqb (byteOf p 0) 0) s in
-      let g = and-both (unused 2 7 p) (isGood (only (eqb (byteOf p 1) 0 && unused 8 23 p) (Good Unmentioned))) (sym (good-both (unused 2 7 p) _) ∙ rw (eq-eqb (length p) 24 h, f) at e) in
-      let k = and-both (eqb (byteOf p 1) 0) (unused 8 23 p) (sym (good-only (eqb (byteOf p 1) 0 && unused 8 23 p) Unmentioned) ∙ g .1) in
+      let g = and-both (unused 2 7 p) (isGood (only (eqb (byteOf p 1) 0 && unused 8 23 p) (Good Unmentioned)))
+      (sym (good-both (unused 2 7 p) _) ∙ rw (eq-eqb (length p) 24 h, f) at e) in
+      let k = and-both (eqb (byteOf p 1) 0) (unused 8 23 p)
+      (sym (good-only (eqb (byteOf p 1) 0 && unused 8 23 p) Unmentioned) ∙ g .1) in
       rw (filled-join 0 2 6 p 0, two f (k .0), g .0, k .1)
 
   -- bytes that are neither blank nor a mention
-  pub bad-told : (filled 0 8 p 0 && filled 0 16 p 8) ≡ false → (isGood (decodeOf p) && mentions (byteOf p 0)) ≡ false → decodeOf p ≡ Broken
+  pub bad-told : (filled 0 8 p 0 && filled 0 16 p 8) ≡ false → (isGood (decodeOf p) && mentions (byteOf p 0)) ≡ false
+      → decodeOf p ≡ Broken
   bad-told x y = not-good (decodeOf p) (never (isGood (decodeOf p)) (λ g. by-test (mentions (byteOf p 0)) (λ m.
-      let z : (isGood (decodeOf p) && mentions (byteOf p 0)) ≡ true = rw (g, m) in contrary z y) (λ m. contrary (silent-told g m) x)))
+      let z : (isGood (decodeOf p) && mentions (byteOf p 0)) ≡ true = rw (g, m) in contrary z y)
+      (λ m. contrary (silent-told g m) x)))

@@ -7,7 +7,8 @@ ghost use lib.ListN.{length, drop};
 ghost use lib.Dec.{eqb, leb};
 ghost use Rattle.octets.specs.Bytes.{byteOf, filled};
 ghost use Rattle.property.specs.Value.{isMention, mentions};
-ghost use Rattle.property.specs.Layout.{unused, signed, only, withDetail, nils, inUnits, unmentionedOf, nilOf, codeOf, numberOf, lengthOf, pointOf, formReading, decodeOf};
+ghost use Rattle.property.specs.Layout.{unused, signed, only, withDetail, nils, inUnits, unmentionedOf, nilOf, codeOf};
+ghost use Rattle.property.specs.Layout.{numberOf, lengthOf, pointOf, formReading, decodeOf};
 ghost use Rattle.property.specs.Eight.{isGood, surveyOf};
 
 mod double;

@@ -36,7 +36,8 @@ same-key a b h =
 
 pub key-same : (a b : Key) → a ≡ b → sameKey a b ≡ true
 unfolding sameKey sameSequence
-key-same a b e = rw (eq-eqb (a .kind) (b .kind) (ap (λ k. k .kind) e), eq-eqb (a .sequence .0) (b .sequence .0) (ap (λ k. k .sequence .0) e))
+key-same a b e =
+    rw (eq-eqb (a .kind) (b .kind) (ap (λ k. k .kind) e), eq-eqb (a .sequence .0) (b .sequence .0) (ap (λ k. k .sequence .0) e))
 
 -- what the floors above ask of keys
 pub key-order : KeyOrder keyLess sameKey

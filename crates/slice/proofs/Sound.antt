@@ -19,7 +19,8 @@ use Rattle.octets.proofs.Runs.{same-bytes, bytes-same}
 use Rattle.property.specs.Eight.{breaks}
 use Rattle.slice.specs.Record.{ofSide, recordSize, sliceSize, kindOf, flagsOf, cancelledOf, partsOf, viewOf}
 use Rattle.slice.specs.Rules.{timesRight, contentRight}
-use Rattle.slice.specs.Check.{checkedReply, refused, reservedClear, emptied, countedTests, recordTests, sliceTests, checkRecord, checkSlice}
+use Rattle.slice.specs.Check.{checkedReply, refused, reservedClear, emptied, countedTests, recordTests, sliceTests}
+use Rattle.slice.specs.Check.{checkRecord, checkSlice}
 use Rattle.slice.specs.declared.check.Checked.the-variants.{Sound}
 use Rattle.slice.proofs.Stages.{record-is, slice-is}
 
@@ -70,7 +71,8 @@ module _ (stride side : ℕ) (r : List ℕ) where
   unfolding countedTests
   counted e p = record { uncancelled = e; properties = p .0; times = not-false _ (p .1 .0); content = not-false _ (p .1 .1 .0) }
 
-  by-flag : (c : Bool) → cancelledOf r ≡ c → (c && not (emptied stride r)) ≡ false → Passed (cond c [] (countedTests stride r)) → Emptied stride r ⊎ Counted stride r
+  by-flag : (c : Bool) → cancelledOf r ≡ c → (c && not (emptied stride r)) ≡ false → Passed (cond c [] (countedTests stride r))
+      → Emptied stride r ⊎ Counted stride r
   unfolding emptied
   by-flag true e h p =
       let q = and-both (filled 255 16 r 8) (filled 0 (8 * stride) r 32) (not-false _ h) in
@@ -80,7 +82,8 @@ module _ (stride side : ℕ) (r : List ℕ) where
   pub sound-record : checkRecord stride side r ≡ Sound → SoundRecord stride r side
   unfolding checkRecord recordTests reservedClear
   sound-record e =
-      let p = given-passed refused Sound refused-apart (test 9 (not (eqb (length r) (recordSize stride))) ∷ recordTests stride side r) e in
+      let p = given-passed refused Sound refused-apart
+      (test 9 (not (eqb (length r) (recordSize stride))) ∷ recordTests stride side r) e in
       let q = and-both (ltb (flagsOf r) 2) (filled 0 8 r 24) (not-false _ (p .1 .1 .0)) in
       record {
         size = eqb-true _ _ (not-false _ (p .0));
@@ -90,7 +93,8 @@ module _ (stride side : ℕ) (r : List ℕ) where
         rest = by-flag (cancelledOf r) refl (p .1 .1 .1 .0) (p .1 .1 .1 .1);
       }
 
-  passed-rest : Emptied stride r ⊎ Counted stride r → ((cancelledOf r && not (emptied stride r)) ≡ false) × Passed (cond (cancelledOf r) [] (countedTests stride r))
+  passed-rest : Emptied stride r ⊎ Counted stride r
+      → ((cancelledOf r && not (emptied stride r)) ≡ false) × Passed (cond (cancelledOf r) [] (countedTests stride r))
   unfolding emptied countedTests
   passed-rest (inl m) = (rw (m .cancelled, m .timeless, m .blank), rw (m .cancelled) tt)
   passed-rest (inr k) = (rw (k .uncancelled), rw (k .uncancelled) (k .properties, (ap not (k .times), (ap not (k .content), tt))))
@@ -108,7 +112,8 @@ pub delivered : (stride : ℕ) (feature : List ℕ) (side : ℕ) (r : List ℕ) 
     → checkSlice stride feature side (feature ++ r) ≡ checkRecord stride side r
 delivered stride feature side r h =
     let size : eqb (length (feature ++ r)) (sliceSize stride) ≡ eqb (length r) (recordSize stride) =
-    rw (length-append feature r, h) (iff (eqb (16 + length r) (sliceSize stride)) (eqb (length r) (recordSize stride)) (λ e. omega tests) (λ e. omega tests)) in
+    rw (length-append feature r, h)
+    (iff (eqb (16 + length r) (sliceSize stride)) (eqb (length r) (recordSize stride)) (λ e. omega tests) (λ e. omega tests)) in
     slice-is stride feature side (feature ++ r)
     ∙ rw (size, take-at feature r 16 h, drop-at feature r 16 h, bytes-same feature feature refl) (sym (record-is stride side r))
 
@@ -118,7 +123,8 @@ pub record SoundSlice (stride : ℕ) (feature : List ℕ) (side : ℕ) (s : List
   pub named : take 16 s ≡ feature
   pub sound : checkRecord stride side (drop 16 s) ≡ Sound
 
-pub sound-slice : (stride : ℕ) (feature : List ℕ) (side : ℕ) (s : List ℕ) → checkSlice stride feature side s ≡ Sound → SoundSlice stride feature side s
+pub sound-slice : (stride : ℕ) (feature : List ℕ) (side : ℕ) (s : List ℕ) → checkSlice stride feature side s ≡ Sound
+    → SoundSlice stride feature side s
 unfolding checkSlice sliceTests checkRecord
 sound-slice stride feature side s e =
     let p = given-passed refused Sound refused-apart (sliceTests stride feature side s) e in
@@ -127,10 +133,13 @@ sound-slice stride feature side s e =
     record {
       size = size;
       named = same-bytes _ _ (not-false _ (p .1 .0));
-      sound = answer-given refused Sound (test 9 (not (eqb (length (drop 16 s)) (recordSize stride))) ∷ recordTests stride side (drop 16 s)) (ap not (eq-eqb _ _ rest), p .1 .1);
+      sound = answer-given refused Sound
+          (test 9 (not (eqb (length (drop 16 s)) (recordSize stride))) ∷ recordTests stride side (drop 16 s))
+          (ap not (eq-eqb _ _ rest), p .1 .1);
     }
 
-pub slice-sound : (stride : ℕ) (feature : List ℕ) (side : ℕ) (s : List ℕ) → SoundSlice stride feature side s → checkSlice stride feature side s ≡ Sound
+pub slice-sound : (stride : ℕ) (feature : List ℕ) (side : ℕ) (s : List ℕ) → SoundSlice stride feature side s
+    → checkSlice stride feature side s ≡ Sound
 slice-sound stride feature side s h =
     let size = h .size in
     let rest : length (drop 16 s) ≡ recordSize stride = length-drop 16 s ∙ omega arith in

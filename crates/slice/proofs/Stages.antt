@@ -14,7 +14,8 @@ use Rattle.slice.specs.declared.check.Checked.the-variants.{Sound}
 
 -- 13 to 16: a cancelled record is emptied, any other passes 14 to 16
 abbrev pub from13 : ℕ → List ℕ → Checked
-from13 stride r = cond (not (cancelledOf r)) (refuse refused (countedTests stride r) Sound) (cond (not (emptied stride r)) (refused 13) Sound)
+from13 stride r =
+    cond (not (cancelledOf r)) (refuse refused (countedTests stride r) Sound) (cond (not (emptied stride r)) (refused 13) Sound)
 
 cancelled-or-not : (cancelled clear : Bool) (counted : List Test)
     → cond (cancelled && not clear) (refused 13) (refuse refused (cond cancelled [] counted) Sound)

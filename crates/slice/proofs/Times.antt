@@ -50,7 +50,8 @@ baseline-times p l h =
       end = none-or (p .end) (before (p .begin) (p .end)) _ (before-true (p .begin) (p .end)) (a .0);
       lifeBegin = none-or (l .begin) (atMost (l .begin) (p .begin)) _ (at-most-true (l .begin) (p .begin)) (b .0);
       lifeEnd = none-or (l .end) (before (p .begin) (l .end)) _ (before-true (p .begin) (l .end)) (c .0);
-      inLife = none-or (p .end) (isNone (l .end) || atMost (p .end) (l .end)) _ (none-or (l .end) (atMost (p .end) (l .end)) _ (at-most-true (p .end) (l .end))) (c .1);
+      inLife = none-or (p .end) (isNone (l .end) || atMost (p .end) (l .end)) _
+          (none-or (l .end) (atMost (p .end) (l .end)) _ (at-most-true (p .end) (l .end))) (c .1);
     }
 
 pub record PermdeltaTimes (p : Period) (l : Life) : Type 0 where

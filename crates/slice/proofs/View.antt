@@ -31,7 +31,8 @@ module _ (stride : ℕ) (r : List ℕ) where
       ∙ ap (eqb (count mentioned (partsOf stride r))) (length-pieces stride 8 (drop 32 r))
 
   pub some-mentioned : any isMentioned (map propertyOf (partsOf stride r)) ≡ ltb 0 (count mentioned (partsOf stride r))
-  some-mentioned = any-map propertyOf isMentioned mentioned property-mentioned (partsOf stride r) ∙ sym (any-count mentioned (partsOf stride r))
+  some-mentioned = any-map propertyOf isMentioned mentioned property-mentioned (partsOf stride r)
+      ∙ sym (any-count mentioned (partsOf stride r))
 
   pub view-times : timesRight (viewOf stride r) ≡ timesOf (kindOf r) (periodOf r) (lifeOf r)
   unfolding timesRight viewOf
@@ -46,6 +47,8 @@ module _ (stride : ℕ) (r : List ℕ) where
   pub counted-is : refuse refused (countedTests stride r) Sound
       ≡ cond (any breaks (partsOf stride r)) (refused 14)
       (cond (not (timesOf (kindOf r) (periodOf r) (lifeOf r))) (refused 15)
-      (cond (not (contentOf (kindOf r) (lifeOf r) (eqb (count mentioned (partsOf stride r)) 8) (ltb 0 (count mentioned (partsOf stride r))))) (refused 16) Sound))
+      (cond (not
+      (contentOf (kindOf r) (lifeOf r) (eqb (count mentioned (partsOf stride r)) 8) (ltb 0 (count mentioned (partsOf stride r)))))
+      (refused 16) Sound))
   unfolding countedTests
   counted-is = rw (view-times, view-content)

@@ -72,5 +72,6 @@ checkSlice stride feature side s = refuse refused (sliceTests stride feature sid
 
 -- `unfolding checking` opens every definition that the check computes by
 unfoldable pub checking : Unit {0}
-unfolding reservedClear emptied countedTests recordTests sliceTests checkRecord checkSlice checkedReply numbers ofSide viewOf baselineTimes permdeltaTimes tempdeltaTimes timesOf timesRight contentOf contentRight sameBytes eight
+unfolding reservedClear emptied countedTests recordTests sliceTests checkRecord checkSlice checkedReply numbers ofSide viewOf
+    baselineTimes permdeltaTimes tempdeltaTimes timesOf timesRight contentOf contentRight sameBytes eight
 checking = tt

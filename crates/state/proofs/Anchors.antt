@@ -29,7 +29,8 @@ module _ (t : Instant) (p : List ℕ) (m : Mark) (based : Bool) (i : ℕ) where
     unfolding foundFrom unlessEnded
     found-ended h = rw (← e, h)
 
-    pub found-going : (s : Start) → s ≡ startAt based i anchorAt → (given end && atMost end t) ≡ false → From s ≡ foundFrom t p m based i
+    pub found-going : (s : Start) → s ≡ startAt based i anchorAt → (given end && atMost end t) ≡ false
+        → From s ≡ foundFrom t p m based i
     unfolding foundFrom unlessEnded
     found-going s f h = rw (← e, h, f)
 
@@ -41,7 +42,8 @@ module _ (t : Instant) (p : List ℕ) (bases openings : Few) (ms : List Mark) wh
   pub none-found : bases ≡ Zero → openings ≡ Zero → refusedStanding 20 ≡ standingOf t p bases openings ms
   none-found e f = rw (e, f)
 
-  pub one-opened : (i : ℕ) → bases ≡ Zero → openings ≡ One i → foundFrom t p (getD ms 9 nothing) false i ≡ standingOf t p bases openings ms
+  pub one-opened : (i : ℕ) → bases ≡ Zero → openings ≡ One i
+      → foundFrom t p (getD ms 9 nothing) false i ≡ standingOf t p bases openings ms
   one-opened i e f = rw (e, f)
 
   pub two-opened : bases ≡ Zero → openings ≡ More → refusedStanding 21 ≡ standingOf t p bases openings ms

@@ -17,7 +17,8 @@ use Rattle.history.specs.Anchor.{stands}
 use Rattle.history.specs.Parts.{tells, due, opensDue}
 
 -- a slice of a kind above BASELINE, and all behind it
-pub kinds-rise : (d : Slice) (ds : List Slice) → Rising sliceKey keyLess sameKey (d ∷ ds) → baseline < d .kind → (x : Slice) → In x (d ∷ ds) → baseline < x .kind
+pub kinds-rise : (d : Slice) (ds : List Slice) → Rising sliceKey keyLess sameKey (d ∷ ds) → baseline < d .kind → (x : Slice)
+    → In x (d ∷ ds) → baseline < x .kind
 unfolding keyLess lowerSequence
 kinds-rise d ds up h x (inl e) = rw e h
 kinds-rise d ds (low, up) h x (inr m) =

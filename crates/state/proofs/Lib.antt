@@ -6,21 +6,21 @@ pub mod Reach
 -- the questions agree: each property of a snapshot is the part that the property question returns
 pub mod Agrees
 -- the snapshot and the property question are refused alike, but for the buffer
-pub mod Refused
+pub mod SameRefusals
 -- what touches a property agrees with the property question, and changes only within reach
 pub mod Touches
 -- what the property question returns goes by the slices alone: the table, and the bytes of the last mention
-pub mod Handed
+pub mod PropertyBytes
 -- what a question returns is told apart by its numbers
 pub mod Replies
 -- where a property begins, that it lies within its table, and the bytes there
-pub mod Placed
+pub mod PropertyPlace
 -- the record written is that of the state: its life times and its eight properties
-pub mod Filled
+pub mod StateRecord
 -- what one pass over a permanent table finds is the permanent state
-pub mod Settled
+pub mod OnePass
 -- what the pass over a permanent table hands on to the search for the anchor
-pub mod Surveyed
+pub mod SurveyResult
 -- what the search for the anchor finds, from the counts of candidates
 pub mod Anchors
 -- the pass keeps, for each part, the mark of its latest mention
@@ -36,6 +36,6 @@ pub mod Views
 -- one turn of a loop over a table's records
 pub mod Walks
 -- the record of a state, property by property
-pub mod Written
+pub mod RecordProperties
 -- parts of a state's record, written one behind the other
 pub mod Pasting

@@ -15,13 +15,14 @@ use Rattle.table.specs.Header.{countOf, strideOf, roomOf, recordAt}
 use Rattle.state.specs.Steps.{nothing, saidAt, propertyBy, propertyFrom, runOf, Known}
 use Rattle.state.specs.declared.mention.Mark.{Mark}
 use Rattle.state.specs.declared.anchor.Start.{Start}
-use Rattle.state.proofs.Settled.{origin-known}
+use Rattle.state.proofs.OnePass.{origin-known}
 use Rattle.state.proofs.Walks.{size-at}
 use Rattle.laws.proofs.Pieces.{piece-within}
 use Rattle.laws.proofs.Tests.{pick-ind}
 
 -- one part behind another
-pub pasted-on : (d a b : List ℕ) (at k : ℕ) {d₁ d₂ : List ℕ} → d₁ ≡ pasted d at a → d₂ ≡ pasted d₁ k b → at + length a ≡ k → k + length b ≤ length d → d₂ ≡ pasted d at (a ++ b)
+pub pasted-on : (d a b : List ℕ) (at k : ℕ) {d₁ d₂ : List ℕ} → d₁ ≡ pasted d at a → d₂ ≡ pasted d₁ k b → at + length a ≡ k
+    → k + length b ≤ length d → d₂ ≡ pasted d at (a ++ b)
 pasted-on d a b at k e f n h = f ∙ (ap (λ (l : List ℕ). pasted l k b) e ∙ pasted-then d a b at k n h)
 
 -- all of some bytes, written over
@@ -39,10 +40,12 @@ take-zeros (suc n) (suc m) h = ap (λ l. 0 ∷ l) (take-zeros n m (omega arith))
 pub unknown-cut : (stride : ℕ) → 2 ≤ stride → stride ≤ 32 → take stride (1 ∷ 4 ∷ replicate 30 0) ≡ nilUnknown stride
 unknown-cut zero h k = absurd (omega arith)
 unknown-cut (suc zero) h k = absurd (omega arith)
-unknown-cut (suc (suc n)) h k = let e : suc (suc n) - 2 ≡ n = omega arith in rw e (ap (λ l. 1 ∷ 4 ∷ l) (take-zeros n 30 (omega arith)))
+unknown-cut (suc (suc n)) h k = let e : suc (suc n) - 2 ≡ n = omega arith in
+    rw e (ap (λ l. 1 ∷ 4 ∷ l) (take-zeros n 30 (omega arith)))
 
 -- properties, one behind the other
-pub run-pasted : (d : List ℕ) (f : ℕ → List ℕ) (stride n : ℕ) → length (runOf f n) ≡ n * stride → length (f n) ≡ stride → 32 + n * stride + stride ≤ length d
+pub run-pasted : (d : List ℕ) (f : ℕ → List ℕ) (stride n : ℕ) → length (runOf f n) ≡ n * stride → length (f n) ≡ stride
+    → 32 + n * stride + stride ≤ length d
     → pasted (pasted d 32 (runOf f n)) (32 + n * stride) (f n) ≡ pasted d 32 (runOf f (n + 1))
 run-pasted d f stride n h k room =
     let s : n + 1 ≡ suc n = omega arith in
@@ -50,10 +53,12 @@ run-pasted d f stride n h k room =
 
 -- the head and then the properties are all of the record
 pub whole-pasted : (d a b : List ℕ) → length a ≡ 32 → length d ≡ 32 + length b → pasted (pasted d 0 a) 32 b ≡ a ++ b
-whole-pasted d a b h k = pasted-then d a b 0 32 (omega arith) (omega arith) ∙ pasted-all d (a ++ b) (omega (arith, length-append a b))
+whole-pasted d a b h k = pasted-then d a b 0 32 (omega arith) (omega arith)
+    ∙ pasted-all d (a ++ b) (omega (arith, length-append a b))
 
 -- a property as the record of a place and one says it
-pub said-cut : (t : List ℕ) (n k : ℕ) → (k ≡ 0 → ⊥) → take (strideOf t) (drop (32 + n * strideOf t) (recordAt (recordSize (strideOf t)) (k - 1) t)) ≡ saidAt t n k
+pub said-cut : (t : List ℕ) (n k : ℕ) → (k ≡ 0 → ⊥)
+    → take (strideOf t) (drop (32 + n * strideOf t) (recordAt (recordSize (strideOf t)) (k - 1) t)) ≡ saidAt t n k
 said-cut t n zero h = absurd (h refl)
 said-cut t n (suc i) h =
     let e : suc i - 1 ≡ i = omega arith in
@@ -65,12 +70,14 @@ module _ (t : List ℕ) (roomy : countOf t ≤ roomOf (recordSize (strideOf t)) 
   said-length n h zero m = refl
   said-length n h (suc i) m =
       let e = size-at t roomy i m in
-      length-take-le (strideOf t) (drop (32 + n * strideOf t) (recordAt (recordSize (strideOf t)) i t)) (simp length-drop (omega (arith, e, piece-within (strideOf t) n 8 h)))
+      length-take-le (strideOf t) (drop (32 + n * strideOf t) (recordAt (recordSize (strideOf t)) i t))
+      (simp length-drop (omega (arith, e, piece-within (strideOf t) n 8 h)))
 
 pub run-length : (f : ℕ → List ℕ) (stride n : ℕ) → ((i : ℕ) → i < n → length (f i) ≡ stride) → length (runOf f n) ≡ n * stride
 run-length f stride zero h = omega arith
 run-length f stride (suc n) h =
-    length-append (runOf f n) (f n) ∙ omega (arith, run-length f stride n (λ i k. h i (omega arith)), h n (omega arith), suc-mul n stride)
+    length-append (runOf f n) (f n)
+    ∙ omega (arith, run-length f stride n (λ i k. h i (omega arith)), h n (omega arith), suc-mul n stride)
 
 pub pasted-none : (d : List ℕ) (at : ℕ) → at ≤ length d → d ≡ pasted d at []
 pasted-none d at h =
@@ -78,8 +85,10 @@ pasted-none d at h =
     sym (pasted-whole d [] at (omega arith) ∙ (ap (λ (n : ℕ). take at d ++ drop n d) z ∙ take-append-drop at d))
 
 pub from-length : (p t : List ℕ) → countOf p ≤ roomOf (recordSize (strideOf p)) p → countOf t ≤ roomOf (recordSize (strideOf t)) t
-    → (s : Start) (ms : List Mark) (os : List ℕ) → s .place < countOf p → Known (countOf p) (λ q. getD ms q nothing .from) → Known (countOf t) (λ q. getD os q 0)
+    → (s : Start) (ms : List Mark) (os : List ℕ) → s .place < countOf p → Known (countOf p) (λ q. getD ms q nothing .from)
+    → Known (countOf t) (λ q. getD os q 0)
     → (n : ℕ) → n < 8 → length (propertyFrom p t s ms os n) ≡ strideOf p
 unfolding propertyBy
 from-length p t room room′ s ms os h km ko n k =
-    pick-ind {X = List ℕ} (λ l. length l ≡ strideOf p) (eqb (getD os n 0) 0) (λ _. said-length p room n k _ (origin-known (countOf p) s _ _ h (km n k))) (λ _. said-length t room′ n k _ (ko n k))
+    pick-ind {X = List ℕ} (λ l. length l ≡ strideOf p) (eqb (getD os n 0) 0)
+    (λ _. said-length p room n k _ (origin-known (countOf p) s _ _ h (km n k))) (λ _. said-length t room′ n k _ (ko n k))

@@ -21,8 +21,8 @@ use Rattle.table.specs.Rules.{tableTests}
 use Rattle.table.specs.Arriving.{recordOf, storedOf, arrivedAt}
 use Rattle.table.specs.declared.check.Sides.{Sides}
 use Rattle.table.specs.declared.check.Sides.the-variants.{Permanent, Temporary}
-use Rattle.table.proofs.Kept.{same-feature}
-use Rattle.table.proofs.Arrived.{arrival-alike, arrival-tests, arrival-records}
+use Rattle.table.proofs.SameHeader.{same-feature}
+use Rattle.table.proofs.ArrivalEffect.{arrival-alike, arrival-tests, arrival-records}
 use Rattle.history.specs.Counted.{sliceKey}
 use Rattle.history.specs.Permanent.{permanentAt}
 use Rattle.history.specs.Snapshot.{passing, snapshotAt}
@@ -31,12 +31,13 @@ use Rattle.history.specs.Reach.{reaches}
 use Rattle.history.specs.Touched.{touches}
 use Rattle.history.proofs.Reach.{line-reach, passing-reach, permanent-reach, snapshot-reach, put-reach}
 use Rattle.history.proofs.Touched.{touched-near}
-use Rattle.state.specs.Asking.{slicesOf, permanentTests, bothTests, misfits, writingTests, askingTests, refusedOutcome, outcomeOf, permanentStateOf, snapshotOf, buffered}
+use Rattle.state.specs.Asking.{slicesOf, permanentTests, bothTests, misfits, writingTests, askingTests, refusedOutcome}
+use Rattle.state.specs.Asking.{outcomeOf, permanentStateOf, snapshotOf, buffered}
 use Rattle.state.specs.Touched.{refusedTouched, touchedBy, touchedOf, uncounted, SameTouched}
 use Rattle.state.specs.Reach.{Reached, SameState, SameSnapshot, SameProperty}
 use Rattle.state.specs.declared.question.Source.the-variants as source
 use Rattle.state.proofs.Slices.{view-key, view-put, view-stored}
-use Rattle.state.proofs.Handed.{sourceAt, saidAt, source-by, said-by}
+use Rattle.state.proofs.PropertyBytes.{sourceAt, saidAt, source-by, said-by}
 
 -- ---- an instant, a table, and a slice that arrives
 module _ (at : Instant) (t s : List ℕ) where
@@ -48,12 +49,15 @@ module _ (at : Instant) (t s : List ℕ) where
 
   -- the instant lies in neither reach
   abbrev pub Outside : Type 0
-  Outside = (reaches at (view (recordOf s)) ≡ false) × ((x : List ℕ) → storedOf (recordOf s) records ≡ some x → reaches at (view x) ≡ false)
+  Outside =
+      (reaches at (view (recordOf s)) ≡ false)
+      × ((x : List ℕ) → storedOf (recordOf s) records ≡ some x → reaches at (view x) ≡ false)
 
   reached-or : Reached at t s ⊎ Outside
   reached-or = by-test (reaches at (view (recordOf s))) (λ y. inl (inl y)) (λ n. go n (storedOf (recordOf s) records) refl)
     where
-      go : reaches at (view (recordOf s)) ≡ false → (o : Option (List ℕ)) → storedOf (recordOf s) records ≡ o → Reached at t s ⊎ Outside
+      go : reaches at (view (recordOf s)) ≡ false → (o : Option (List ℕ)) → storedOf (recordOf s) records ≡ o
+          → Reached at t s ⊎ Outside
       go n none e = inr (n, λ x q. absurd (Option·none-ne-some x (sym e ∙ q)))
       go n (some y) e =
           by-test (reaches at (view y)) (λ h. inl (inr (y, e, h)))
@@ -68,7 +72,8 @@ module _ (at : Instant) (t s : List ℕ) where
       ∙ put-reach at (view (recordOf s)) (map view records) n there)
       (arrival-records t s)
     where
-      there : (x : Slice) → stored sliceKey keyLess sameKey (sliceKey (view (recordOf s))) (map view records) ≡ some x → reaches at x ≡ false
+      there : (x : Slice) → stored sliceKey keyLess sameKey (sliceKey (view (recordOf s))) (map view records) ≡ some x
+          → reaches at x ≡ false
       there x q =
           let (y, e, v) = map-eq-some-iff view (storedOf (recordOf s) records) .0
           (sym (view-stored (strideOf t) (keyOf (recordOf s)) records) ∙ (rw (view-key (strideOf t) (recordOf s)) at q)) in
@@ -122,8 +127,11 @@ module _ (at : Instant) (p p' : List ℕ) (a : AsBefore Permanent at p p') where
     -- property n: from the same table, and the same bytes
     same-property : (n : ℕ) → SameProperty at p p' t t' n
     same-property n = (
-      source-by p' t' at n ∙ (λ i. refuse (λ k. source.Refused (record { number = k })) (asked i) (sourceAt (over i) (under i) (standing i))) ∙ sym (source-by p t at n),
-      said-by p' t' at n ∙ (λ i. refuse (λ k. []) (asked i) (saidAt (strideOf p) n (over i) (under i) (standing i))) ∙ sym (said-by p t at n),
+      source-by p' t' at n
+          ∙ (λ i. refuse (λ k. source.Refused (record { number = k })) (asked i) (sourceAt (over i) (under i) (standing i)))
+          ∙ sym (source-by p t at n),
+      said-by p' t' at n ∙ (λ i. refuse (λ k. []) (asked i) (saidAt (strideOf p) n (over i) (under i) (standing i)))
+          ∙ sym (said-by p t at n),
     )
       where
         asked : bothTests p' t' ++ askingTests at n ≡ bothTests p t ++ askingTests at n
@@ -145,7 +153,8 @@ module _ (at : Instant) (t t' : List ℕ) (b : AsBefore Temporary at t t') (n : 
       let asked = tableTests (strideOf u) Temporary u ++ askingTests at n in
       refuse-map uncounted refusedTouched refusedWith (λ k. refl) asked _
       ∙ ap (refuse refusedWith asked)
-      (by-test (any (touches at n) (slicesOf u)) (λ y. rw (touched-near at n (slicesOf u), y)) (λ q. rw (touched-near at n (slicesOf u), q)))
+      (by-test (any (touches at n) (slicesOf u)) (λ y. rw (touched-near at n (slicesOf u), y))
+      (λ q. rw (touched-near at n (slicesOf u), q)))
 
   same-touched : SameTouched at t t' n
   same-touched =
@@ -166,19 +175,23 @@ module _ (at : Instant) (p s : List ℕ) where
   module _ (t : List ℕ) where
     pub permanent-changed : (buffer : List ℕ) → (SameSnapshot at p (arrivedAt p s) t t buffer → ⊥) → Reached at p s
     permanent-changed buffer =
-        within at p s (λ out. same-snapshot at p (arrivedAt p s) (as-arrived Permanent at p s out) t t (as-itself Temporary at t) buffer)
+        within at p s
+        (λ out. same-snapshot at p (arrivedAt p s) (as-arrived Permanent at p s out) t t (as-itself Temporary at t) buffer)
 
     pub permanent-property : (n : ℕ) → (SameProperty at p (arrivedAt p s) t t n → ⊥) → Reached at p s
-    permanent-property n = within at p s (λ out. same-property at p (arrivedAt p s) (as-arrived Permanent at p s out) t t (as-itself Temporary at t) n)
+    permanent-property n =
+        within at p s (λ out. same-property at p (arrivedAt p s) (as-arrived Permanent at p s out) t t (as-itself Temporary at t) n)
 
 -- it arrives at the temporary table
 module _ (at : Instant) (p t s : List ℕ) where
   pub temporary-changed : (buffer : List ℕ) → (SameSnapshot at p p t (arrivedAt t s) buffer → ⊥) → Reached at t s
   temporary-changed buffer =
-      within at t s (λ out. same-snapshot at p p (as-itself Permanent at p) t (arrivedAt t s) (as-arrived Temporary at t s out) buffer)
+      within at t s
+      (λ out. same-snapshot at p p (as-itself Permanent at p) t (arrivedAt t s) (as-arrived Temporary at t s out) buffer)
 
   pub temporary-property : (n : ℕ) → (SameProperty at p p t (arrivedAt t s) n → ⊥) → Reached at t s
-  temporary-property n = within at t s (λ out. same-property at p p (as-itself Permanent at p) t (arrivedAt t s) (as-arrived Temporary at t s out) n)
+  temporary-property n =
+      within at t s (λ out. same-property at p p (as-itself Permanent at p) t (arrivedAt t s) (as-arrived Temporary at t s out) n)
 
 pub touched-changed : (at : Instant) (t s : List ℕ) (n : ℕ) → (SameTouched at t (arrivedAt t s) n → ⊥) → Reached at t s
 touched-changed at t s n = within at t s (λ out. same-touched at t (arrivedAt t s) (as-arrived Temporary at t s out) n)

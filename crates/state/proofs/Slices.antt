@@ -45,7 +45,8 @@ module _ (stride : ℕ) where
     where
       go : (a b : Bool) → views (put keyOf keyLess sameKey r xs) ≡ put sliceKey keyLess sameKey (viewOf stride r) (views xs)
           → views (cond a (r ∷ x ∷ xs) (cond b (r ∷ xs) (x ∷ put keyOf keyLess sameKey r xs)))
-          ≡ cond a (viewOf stride r ∷ viewOf stride x ∷ views xs) (cond b (viewOf stride r ∷ views xs) (viewOf stride x ∷ put sliceKey keyLess sameKey (viewOf stride r) (views xs)))
+          ≡ cond a (viewOf stride r ∷ viewOf stride x ∷ views xs)
+          (cond b (viewOf stride r ∷ views xs) (viewOf stride x ∷ put sliceKey keyLess sameKey (viewOf stride r) (views xs)))
       go true b e = refl
       go false true e = refl
       go false false e = ap (λ (l : List Slice). viewOf stride x ∷ l) e
@@ -57,8 +58,10 @@ module _ (stride : ℕ) where
   view-stored k [] = refl
   view-stored k (x ∷ xs) = go (sameKey k (keyOf x)) (view-stored k xs)
     where
-      go : (b : Bool) → stored sliceKey keyLess sameKey k (views xs) ≡ Option·map (viewOf stride) (stored keyOf keyLess sameKey k xs)
-          → cond b (some (viewOf stride x)) (stored sliceKey keyLess sameKey k (views xs)) ≡ Option·map (viewOf stride) (cond b (some x) (stored keyOf keyLess sameKey k xs))
+      go : (b : Bool)
+          → stored sliceKey keyLess sameKey k (views xs) ≡ Option·map (viewOf stride) (stored keyOf keyLess sameKey k xs)
+          → cond b (some (viewOf stride x)) (stored sliceKey keyLess sameKey k (views xs)) ≡ Option·map (viewOf stride)
+          (cond b (some x) (stored keyOf keyLess sameKey k xs))
       go true e = refl
       go false e = e
 
@@ -140,13 +143,15 @@ module _ (t : List ℕ) where
   slices-at i h r =
       drop-map (viewOf (strideOf t)) i (recordsOf size t)
       ∙ ap (map (viewOf (strideOf t))) (rest-at size t i h r)
-      ∙ ap (λ (l : List Slice). viewOf (strideOf t) (recordAt size i t) ∷ l) (sym (drop-map (viewOf (strideOf t)) (i + 1) (recordsOf size t)))
+      ∙ ap (λ (l : List Slice). viewOf (strideOf t) (recordAt size i t) ∷ l)
+      (sym (drop-map (viewOf (strideOf t)) (i + 1) (recordsOf size t)))
 
   pub slices-end : (i : ℕ) → countOf t ≤ i → drop i (slicesOf t) ≡ []
   slices-end i h = let l : length (slicesOf t) ≤ i = omega (arith, slices-length) in drop-of-length-le (slicesOf t) l
 
   -- slice i is the view of record i
-  pub slice-at : (i : ℕ) (d : Slice) → i < countOf t → countOf t ≤ roomOf size t → getD (slicesOf t) i d ≡ viewOf (strideOf t) (recordAt size i t)
+  pub slice-at : (i : ℕ) (d : Slice) → i < countOf t → countOf t ≤ roomOf size t
+      → getD (slicesOf t) i d ≡ viewOf (strideOf t) (recordAt size i t)
   slice-at i d h r =
       sym (getD-drop i (slicesOf t) 0 d ∙ ap (λ (n : ℕ). getD (slicesOf t) n d) (add-zero i))
       ∙ ap (λ (l : List Slice). getD l 0 d) (slices-at i h r)
@@ -160,9 +165,11 @@ module _ (t : List ℕ) where
   slice-eight d m = let (r, n, e) = slice-view d m in ap (λ s. length (s .properties)) e ∙ view-eight (strideOf t) r
 
   -- in a sound table each that says bytes says as many as a property has
-  pub slice-sized : (sides : Sides) → checkTable sides t ≡ Sound → (d : Slice) → In d (slicesOf t) → (b : List ℕ) → In (says b) (d .properties)
+  pub slice-sized : (sides : Sides) → checkTable sides t ≡ Sound → (d : Slice) → In d (slicesOf t) → (b : List ℕ)
+      → In (says b) (d .properties)
       → length b ≡ strideOf t
   slice-sized sides e d m b q =
       let (r, n, v) = slice-view d m in
       let good = all-good (strideOf t) (sideOf t) (recordsOf size t) (sound-table sides t e .sound) in
-      view-sized (strideOf t) r (good-sized (strideOf t) (sideOf t) (recordsOf size t) good r n) b (subst (λ s. In (says b) (s .properties)) v q)
+      view-sized (strideOf t) r (good-sized (strideOf t) (sideOf t) (recordsOf size t) good r n) b
+      (subst (λ s. In (says b) (s .properties)) v q)

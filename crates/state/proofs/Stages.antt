@@ -21,21 +21,26 @@ use Rattle.table.specs.Rules.{tableTests, checkTable, orderTests, checkOrder}
 use Rattle.table.specs.declared.check.Sides.the-variants as sides
 use Rattle.history.specs.Permanent.{Standing, permanentAt}
 use Rattle.history.specs.Snapshot.{snapshotAt}
-use Rattle.state.specs.Asking.{slicesOf, permanentTests, bothTests, checkBoth, misfits, writingTests, askingTests, refusedOutcome, outcomeOf, permanentStateOf, stateAtOf, snapshotOf, refusedPlace, placeAt, placeOf}
+use Rattle.state.specs.Asking.{slicesOf, permanentTests, bothTests, checkBoth, misfits, writingTests, askingTests}
+use Rattle.state.specs.Asking.{refusedOutcome, outcomeOf, permanentStateOf, stateAtOf, snapshotOf, refusedPlace, placeAt}
+use Rattle.state.specs.Asking.{placeOf}
 use Rattle.state.specs.Steps.{leftOf}
 use Rattle.state.specs.declared.answer.Outcome.the-variants as outcome
 use Rattle.state.specs.declared.question.Place.the-variants as place
-use Rattle.state.proofs.Placed.{tests-sound}
+use Rattle.state.proofs.PropertyPlace.{tests-sound}
 
 -- ---- a check, and the tests behind it
 module _ {A : Type 0} (other : ℕ → A) (xs ys : List Test) (answer : A) where
   pub check-refuses : (f : Refusal) → refuse refused xs Sound ≡ Refused f → refuse other (xs ++ ys) answer ≡ other (f .number)
   check-refuses f e =
       refuse-join other xs ys answer
-      ∙ number-given other (refuse other ys answer) (f .number) xs (given-number refused Sound refused-apart refused-tells (f .number) xs e)
+      ∙ number-given other (refuse other ys answer) (f .number) xs
+      (given-number refused Sound refused-apart refused-tells (f .number) xs e)
 
   pub check-passes : refuse refused xs Sound ≡ Sound → refuse other (xs ++ ys) answer ≡ refuse other ys answer
-  check-passes e = refuse-join other xs ys answer ∙ answer-given other (refuse other ys answer) xs (given-passed refused Sound refused-apart xs e)
+  check-passes e =
+      refuse-join other xs ys answer
+      ∙ answer-given other (refuse other ys answer) xs (given-passed refused Sound refused-apart xs e)
 
 -- ---- both tables
 module _ (p t : List ℕ) where
@@ -53,28 +58,39 @@ module _ (p t : List ℕ) where
 
     pub both-second : (f : Refusal) → checkTable sides.Temporary t ≡ Refused f → Refused f ≡ checkBoth p t
     unfolding checkTable
-    both-second f g = sym (past ∙ check-refuses refused (tableTests (strideOf t) sides.Temporary t) (test 8 (not (sameBytes (featureOf p) (featureOf t))) ∷ []) Sound f g)
+    both-second f g =
+        sym (past
+        ∙ check-refuses refused (tableTests (strideOf t) sides.Temporary t)
+        (test 8 (not (sameBytes (featureOf p) (featureOf t))) ∷ []) Sound f g)
 
-    pub both-last : checkTable sides.Temporary t ≡ Sound → (b : Bool) → b ≡ sameBytes (featureOf p) (featureOf t) → cond (not b) (refused 8) Sound ≡ checkBoth p t
+    pub both-last : checkTable sides.Temporary t ≡ Sound → (b : Bool) → b ≡ sameBytes (featureOf p) (featureOf t)
+        → cond (not b) (refused 8) Sound ≡ checkBoth p t
     unfolding checkTable
     both-last g b h =
-        rw h (sym (past ∙ check-passes refused (tableTests (strideOf t) sides.Temporary t) (test 8 (not (sameBytes (featureOf p) (featureOf t))) ∷ []) Sound g))
+        rw h (sym
+        (past ∙ check-passes refused (tableTests (strideOf t) sides.Temporary t)
+        (test 8 (not (sameBytes (featureOf p) (featureOf t))) ∷ []) Sound g))
 
 -- both tables are sound where the check passes, and name one feature
-pub both-sound : (p t : List ℕ) → checkBoth p t ≡ Sound → (checkTable sides.Permanent p ≡ Sound) × (checkTable sides.Temporary t ≡ Sound)
+pub both-sound : (p t : List ℕ) → checkBoth p t ≡ Sound
+    → (checkTable sides.Permanent p ≡ Sound) × (checkTable sides.Temporary t ≡ Sound)
 unfolding checkBoth bothTests permanentTests
 both-sound p t e =
-    let q = passed-split (tableTests (strideOf p) sides.Permanent p) (rest p t) (given-passed refused Sound refused-apart (bothTests p t) e) in
-    let r = passed-split (tableTests (strideOf t) sides.Temporary t) (test 8 (not (sameBytes (featureOf p) (featureOf t))) ∷ []) (q .1) in
+    let q = passed-split (tableTests (strideOf p) sides.Permanent p) (rest p t)
+    (given-passed refused Sound refused-apart (bothTests p t) e) in
+    let r = passed-split (tableTests (strideOf t) sides.Temporary t) (test 8 (not (sameBytes (featureOf p) (featureOf t))) ∷ [])
+    (q .1) in
     (tests-sound sides.Permanent p (q .0), tests-sound sides.Temporary t (r .0))
 
 -- ---- a question that writes a record, behind the check of its tables
 module _ (p : List ℕ) (at : Instant) (buffer : List ℕ) where
   pub state-refused : (f : Refusal) → checkTable sides.Permanent p ≡ Refused f → outcome.Refused f ≡ permanentStateOf p at buffer
   unfolding permanentStateOf permanentTests checkTable
-  state-refused f e = sym (check-refuses refusedOutcome (tableTests (strideOf p) sides.Permanent p) (writingTests p at buffer) _ f e)
+  state-refused f e =
+      sym (check-refuses refusedOutcome (tableTests (strideOf p) sides.Permanent p) (writingTests p at buffer) _ f e)
 
-  pub state-left : checkTable sides.Permanent p ≡ Sound → leftOf p at buffer (permanentAt at (slicesOf p)) ≡ permanentStateOf p at buffer
+  pub state-left : checkTable sides.Permanent p ≡ Sound
+      → leftOf p at buffer (permanentAt at (slicesOf p)) ≡ permanentStateOf p at buffer
   unfolding permanentStateOf permanentTests checkTable
   state-left e = sym (check-passes refusedOutcome (tableTests (strideOf p) sides.Permanent p) (writingTests p at buffer) _ e)
 
@@ -91,7 +107,8 @@ module _ (p : List ℕ) (at : Instant) (buffer : List ℕ) where
     unfolding snapshotOf checkBoth
     snapshot-refused f e = sym (check-refuses refusedOutcome (bothTests p t) (writingTests p at buffer) _ f e)
 
-    pub snapshot-left : checkBoth p t ≡ Sound → leftOf p at buffer (snapshotAt at (slicesOf p) (slicesOf t)) ≡ snapshotOf p t at buffer
+    pub snapshot-left : checkBoth p t ≡ Sound
+        → leftOf p at buffer (snapshotAt at (slicesOf p) (slicesOf t)) ≡ snapshotOf p t at buffer
     unfolding snapshotOf checkBoth
     snapshot-left e = sym (check-passes refusedOutcome (bothTests p t) (writingTests p at buffer) _ e)
 

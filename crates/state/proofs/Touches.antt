@@ -29,7 +29,8 @@ use Rattle.history.specs.Snapshot.{passing}
 use Rattle.history.specs.Source.{line, lastMention}
 use Rattle.history.specs.Touched.{touches, looked}
 use Rattle.history.proofs.Touched.{LastAt, last-any, last-looked, none-looked, looked-most, untouched-latest, touched-latest}
-use Rattle.state.specs.Asking.{slicesOf, permanentTests, bothTests, askingTests, refusedPlace, placeIn, placed, placeAt, placeOf}
+use Rattle.state.specs.Asking.{slicesOf, permanentTests, bothTests, askingTests, refusedPlace, placeIn, placed, placeAt}
+use Rattle.state.specs.Asking.{placeOf}
 use Rattle.state.specs.Touched.{refusedTouched, touchedBy, touchedOf, uncounted, AnsweredBy}
 use Rattle.state.specs.Steps.{placeAndOne}
 use Rattle.state.specs.declared.question.Place.{Place}
@@ -37,8 +38,8 @@ use Rattle.state.specs.declared.question.Place.the-variants as place
 use Rattle.state.specs.declared.looking.Touched.{Touched}
 use Rattle.state.specs.declared.looking.Touched.the-variants as touched
 use Rattle.state.proofs.Slices.{slices-length, slices-at, sound-rising}
-use Rattle.state.proofs.Settled.{sliceHere}
-use Rattle.state.proofs.Placed.{propertyPlace, place-here, over-none, over-one, tests-sound}
+use Rattle.state.proofs.OnePass.{sliceHere}
+use Rattle.state.proofs.PropertyPlace.{propertyPlace, place-here, over-none, over-one, tests-sound}
 use Rattle.state.proofs.Stages.{check-refuses, check-passes}
 
 -- ---- the walk, where no slice behind record i touches the property
@@ -83,10 +84,12 @@ module _ (t : List ℕ) (at : Instant) (n : ℕ) where
     touched-left h = sym (left ∙ rw h)
 
 -- a claim about what tests answer is shown of their refusals, and of the answer where none fails
-refuse-ind : {A : Type 0} (P : A → Type 0) (refused : ℕ → A) → ((k : ℕ) → P (refused k)) → (xs : List Test) (v : A) → (Passed xs → P v)
+refuse-ind : {A : Type 0} (P : A → Type 0) (refused : ℕ → A) → ((k : ℕ) → P (refused k)) → (xs : List Test) (v : A)
+    → (Passed xs → P v)
     → P (refuse refused xs v)
 refuse-ind P refused own [] v f = f tt
-refuse-ind P refused own (x ∷ xs) v f = pick-ind P (x .fails) (λ _. own (x .number)) (λ y. refuse-ind P refused own xs v (λ q. f (y, q)))
+refuse-ind P refused own (x ∷ xs) v f =
+    pick-ind P (x .fails) (λ _. own (x .number)) (λ y. refuse-ind P refused own xs v (λ q. f (y, q)))
 
 -- ---- beside the property question
 -- of a sound table, what touches property n last is what mentions it last among the slices that are valid
@@ -144,13 +147,15 @@ module _ (p t : List ℕ) (at : Instant) (n : ℕ) where
   unfolding placeOf bothTests
   beside =
       let standing = permanentAt at (slicesOf p) in
-      refuse-ind (Beside (touchedOf t at n)) refusedPlace (λ _. tt) (bothTests p t ++ askingTests at n) (placeAt p t at n standing) (λ all.
+      refuse-ind (Beside (touchedOf t at n)) refusedPlace (λ _. tt) (bothTests p t ++ askingTests at n) (placeAt p t at n standing)
+      (λ all.
       let (tables, (i, _)) = passed-split (bothTests p t) (askingTests at n) all in
       let (_, rest) = passed-split (permanentTests p) _ tables in
       let (b, _) = passed-split (tableTests (strideOf t) Temporary t) _ rest in
       let low : ltb 7 n ≡ false = or-neither (isNone at) (ltb 7 n) i .1 in
       let sound = tests-sound Temporary t b in
-      subst (λ a. Beside a (placeAt p t at n standing)) (touched-left t at n sound i) (beside-standing (omega tests) sound standing))
+      subst (λ a. Beside a (placeAt p t at n standing)) (touched-left t at n sound i)
+      (beside-standing (omega tests) sound standing))
 
   -- yes where the property question answers with the temporary table, no where it answers otherwise
   pub touched-agrees : AnsweredBy (placeOf p t at n) (touchedOf t at n)

@@ -28,18 +28,26 @@ module _ (stride : ℕ) (r : List ℕ) where
     where
       go : (n : ℕ) → stride ≡ n → byteOf (take n (drop at r)) 0 ≡ byteOf r at
       go zero e = sym (List·getD-eq-default r 0 (h e))
-      go (suc n) e = let k : at + 0 ≡ at = omega arith in getD-take (suc n) (drop at r) 0 0 (omega arith) ∙ (getD-drop at r 0 0 ∙ ap (byteOf r) k)
+      go (suc n) e = let k : at + 0 ≡ at = omega arith in
+          getD-take (suc n) (drop at r) 0 0 (omega arith) ∙ (getD-drop at r 0 0 ∙ ap (byteOf r) k)
 
   -- properties of no bytes
   empty : (q : ℕ) → stride ≡ 0 → length r ≡ recordSize stride → length r ≤ 32 + q * stride
   empty q e l = rw (l, e) (omega arith)
 
   -- it is a mention where its first byte is not 0
-  pub tells-property : (q : ℕ) → q < 8 → length r ≡ recordSize stride → not (eqb (byteOf r (32 + q * stride)) 0) ≡ tells q (viewOf stride r)
+  pub tells-property : (q : ℕ) → q < 8 → length r ≡ recordSize stride
+      → not (eqb (byteOf r (32 + q * stride)) 0) ≡ tells q (viewOf stride r)
   unfolding tells mentions mentioned
   tells-property q h l =
       let y : ltb q 8 ≡ true = omega tests in
-      rw (y, view-property stride r q h, property-mentioned (propertyAt stride r q), first-byte (32 + q * stride) (λ e. empty q e l))
+      rw (
+        y,
+        view-property stride r q h,
+        property-mentioned (propertyAt stride r q),
+        first-byte (32 + q * stride)
+            (λ e. empty q e l),
+      )
 
   -- parts 8 and 9 are the life begin and the life end
   pub tells-begin : given (lifeOf r .begin) ≡ tells 8 (viewOf stride r)

@@ -107,7 +107,8 @@ refusedPlace n = place.Refused (record { number = n })
 -- where property n of a slice begins in the table that holds it: kind and sequence number tell the record
 unfoldable pub placeIn : List ℕ → ℕ → Slice → ℕ
 placeIn t n s =
-    32 + first (λ r. sameKey (keyOf r) (sliceKey s)) (recordsOf (recordSize (strideOf t)) t) * recordSize (strideOf t) + 32 + n * strideOf t
+    32 + first (λ r. sameKey (keyOf r) (sliceKey s)) (recordsOf (recordSize (strideOf t)) t) * recordSize
+    (strideOf t) + 32 + n * strideOf t
 
 -- in the table whose record mentioned it last: TEMPDELTAs come after what makes the permanent state
 abbrev pub placed : List ℕ → List ℕ → ℕ → Option Slice → Option Slice → Place
@@ -154,7 +155,8 @@ bytesAt p t (place.Refused f) = []
 abbrev pub pointsInto : RefT (List ℕ) → ℕ → ℕ × ℕ
 pointsInto s at = (s .ptr .0, at + s .ptr .1)
 
--- the part that the property question hands back: where it points, and its bytes. Without bytes it is at the permanent table's front
+-- the part that the property question hands back: where it points, and its bytes. Without bytes it is at the permanent table's
+-- front
 abbrev pub handed : Place → RefT (List ℕ) → RefT (List ℕ) → (ℕ × ℕ) × List ℕ
 handed (place.Permanent at) p t = (pointsInto p at, bytesAt (p .now) (t .now) (place.Permanent at))
 handed (place.Temporary at) p t = (pointsInto t at, bytesAt (p .now) (t .now) (place.Temporary at))
@@ -171,5 +173,6 @@ Tells p t b (place.Refused f) = ⊥
 
 -- `unfolding asking` opens every definition that a question computes by
 unfoldable pub asking : Unit {0}
-unfolding slicesOf permanentTests bothTests checkBoth misfits permanentStateOf stateAtOf snapshotOf outcomeReply placeIn placeOf placeReply sourceReply stateRecord line mentions lastMention instants ruling
+unfolding slicesOf permanentTests bothTests checkBoth misfits permanentStateOf stateAtOf snapshotOf outcomeReply placeIn placeOf
+    placeReply sourceReply stateRecord line mentions lastMention instants ruling
 asking = tt

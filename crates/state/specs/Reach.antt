@@ -16,7 +16,8 @@ use Rattle.state.specs.Asking.{permanentStateOf, snapshotOf, afterState,
 abbrev pub Reached : Instant → List ℕ → List ℕ → Type 0
 Reached at t s =
     (reaches at (viewOf (strideOf t) (recordOf s)) ≡ true)
-    ⊎ ((x : List ℕ) × (storedOf (recordOf s) (recordsOf (recordSize (strideOf t)) t) ≡ some x) × (reaches at (viewOf (strideOf t) x) ≡ true))
+    ⊎ ((x : List ℕ) × (storedOf (recordOf s) (recordsOf (recordSize (strideOf t)) t) ≡ some x)
+    × (reaches at (viewOf (strideOf t) x) ≡ true))
 
 module _ (at : Instant) (p p' : List ℕ) where
   -- two permanent tables answer alike for the permanent state, and leave the same bytes in the buffer

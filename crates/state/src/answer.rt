@@ -105,8 +105,10 @@ pub fn state_at(permanent: &[u8], instant: Instant, record: &mut [u8]) -> Outcom
 // for the temporary one, 8 for different features, 19 for no instant, 23 for a record of another size, 21
 // for two anchors, 20 where no state is known, 22 where the feature is withdrawn.
 pub fn snapshot(permanent: &[u8], temporary: &[u8], instant: Instant, record: &mut [u8]) -> Outcome
-    ensures answer { λ r. ⌜ outcomeReply r ≡ outcomeReply (snapshotOf (now (permanent .entry)) (now (temporary .entry)) instant (now («record» .entry))) ⌝ }
-    ensures buffer { λ r. ⌜ now («record» .exit) ≡ afterSnapshot r (now (permanent .entry)) (now (temporary .entry)) instant (now («record» .entry)) ⌝ }
+    ensures answer { λ r. ⌜ outcomeReply r
+        ≡ outcomeReply (snapshotOf (now (permanent .entry)) (now (temporary .entry)) instant (now («record» .entry))) ⌝ }
+    ensures buffer { λ r. ⌜ now («record» .exit) ≡ afterSnapshot r (now (permanent .entry)) (now (temporary .entry)) instant
+        (now («record» .entry)) ⌝ }
 {
     if let Checked::Refused(refusal) = check_both(permanent, temporary) {
         return Outcome::Refused(refusal);

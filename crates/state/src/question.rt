@@ -104,7 +104,8 @@ pub fn locate(permanent: &[u8], temporary: &[u8], instant: Instant, property: u8
 // Which table has the bytes of a property at an instant, that nothing mentions it, or why there is no
 // answer.
 pub fn source_of(permanent: &[u8], temporary: &[u8], instant: Instant, property: u8) -> Source
-    ensures { λ r. ⌜ sourceReply r ≡ sourceReply (sourceOf (placeOf (now (permanent .entry)) (now (temporary .entry)) instant property)) ⌝ }
+    ensures { λ r.
+        ⌜ sourceReply r ≡ sourceReply (sourceOf (placeOf (now (permanent .entry)) (now (temporary .entry)) instant property)) ⌝ }
 {
     match locate(permanent, temporary, instant, property) {
         Place::Permanent(_) => Source::Permanent,
@@ -122,7 +123,9 @@ pub fn property<'a>(
     instant: Instant,
     property: u8,
 ) -> &'a [u8]
-    ensures { λ r. ⌜ shown r ≡ handed (placeOf (now (permanent .entry)) (now (temporary .entry)) instant property) (permanent .entry) (temporary .entry) ⌝ }
+    ensures { λ r.
+        ⌜ shown r ≡ handed (placeOf (now (permanent .entry)) (now (temporary .entry)) instant property) (permanent .entry)
+        (temporary .entry) ⌝ }
 {
     match locate(permanent, temporary, instant, property) {
         Place::Permanent(at) => &permanent[at..at + stride_of(permanent)],

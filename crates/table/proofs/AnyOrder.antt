@@ -17,9 +17,10 @@ use Rattle.slice.specs.Record.{recordSize, correctionOf, keyOf, keyLess, sameKe
 use Rattle.slice.proofs.Keys.{key-order}
 use Rattle.table.specs.Header.{stride1, roomOf, written}
 use Rattle.table.specs.Arriving.{recordOf, creationOf, created}
-use Rattle.table.specs.Deliveries.{deliveredTo, passes, sentTo, Delivers, Agree, pairsIn, recordsAfresh, holding, tableAfresh, TableOf}
+use Rattle.table.specs.Deliveries.{deliveredTo, passes, sentTo, Delivers, Agree, pairsIn, recordsAfresh, holding, tableAfresh}
+use Rattle.table.specs.Deliveries.{TableOf}
 use Rattle.table.specs.declared.create.Creation.the-variants.{Made}
-use Rattle.table.proofs.Delivered.{deliveries, new-room, new-feature, new-written, new-empty, new-sound}
+use Rattle.table.proofs.Deliveries.{deliveries, new-room, new-feature, new-written, new-empty, new-sound}
 
 -- the buffer after a new table and the arrivals of slices, in that order
 abbrev pub fed : List ℕ → ℕ → List ℕ → List (List ℕ) → List ℕ
@@ -30,14 +31,16 @@ abbrev pub sent : List ℕ → ℕ → List (List ℕ) → List (List ℕ)
 sent feature side ss = sentTo stride1 feature side ss
 
 module _ (buffer : List ℕ) (side : ℕ) (feature : List ℕ) (named : length feature ≡ 16) (made : creationOf buffer side ≡ Made) where
-  -- ANY ORDER: slices of any kind and length, with repeats. Where those that pass agree and their kinds and sequences are no more than
-  -- the room, they make the table of what was sent, worked out afresh
-  pub any-order : (ss : List (List ℕ)) → Agree (sent feature side ss) → pairsIn (sent feature side ss) ≤ roomOf (recordSize stride1) buffer
+  -- ANY ORDER: slices of any kind and length, with repeats. Where those that pass agree and their kinds and sequences are no more
+  -- than the room, they make the table of what was sent, worked out afresh
+  pub any-order : (ss : List (List ℕ)) → Agree (sent feature side ss)
+      → pairsIn (sent feature side ss) ≤ roomOf (recordSize stride1) buffer
       → fed buffer side feature ss ≡ tableAfresh buffer side feature (sent feature side ss)
   unfolding recordsAfresh
   any-order ss agree fit =
       ap (λ (x : List ℕ). deliveredTo x ss) (sym (new-empty buffer side feature named made))
-      ∙ deliveries (created Made buffer side feature) (new-sound buffer side feature named made) ss [] (record { good = λ r m. absurd m; up = tt; fits = omega arith })
+      ∙ deliveries (created Made buffer side feature) (new-sound buffer side feature named made) ss []
+      (record { good = λ r m. absurd m; up = tt; fits = omega arith })
       ∙ (λ i. written (created Made buffer side feature)
       (delivered keyOf keyLess sameKey correctionOf lowerCorrection
       (new-room buffer side feature named made (recordSize stride1) i) []
@@ -68,7 +71,8 @@ module _ (buffer : List ℕ) (side : ℕ) (feature : List ℕ) (named : length f
       → fed buffer side feature ss ≡ fed buffer side feature us
   two-orders ss us same = same-records ss us (λ r. (over ss us r (λ s. same s .0), over us ss r (λ s. same s .1)))
     where
-      over : (xs ys : List (List ℕ)) (r : List ℕ) → ((s : List ℕ) → In s xs → In s ys) → In r (sent feature side xs) → In r (sent feature side ys)
+      over : (xs ys : List (List ℕ)) (r : List ℕ) → ((s : List ℕ) → In s xs → In s ys) → In r (sent feature side xs)
+          → In r (sent feature side ys)
       over xs ys r f m =
           let test : List ℕ → Bool = passes stride1 feature side in
           let (s, n, e) = map-in recordOf (kept test xs) r m in
@@ -76,7 +80,8 @@ module _ (buffer : List ℕ) (side : ℕ) (feature : List ℕ) (named : length f
           rw e (in-map recordOf (kept test ys) s (kept-in test ys s .1 (f s (p .0), p .1)))
 
   -- THE TABLE OF A SET: any delivery of it makes the table of the set, worked out afresh
-  pub of-set : (set ss : List (List ℕ)) → Delivers feature side set ss → Agree (map recordOf set) → pairsIn (map recordOf set) ≤ roomOf (recordSize stride1) buffer
+  pub of-set : (set ss : List (List ℕ)) → Delivers feature side set ss → Agree (map recordOf set)
+      → pairsIn (map recordOf set) ≤ roomOf (recordSize stride1) buffer
       → fed buffer side feature ss ≡ tableAfresh buffer side feature (map recordOf set)
   unfolding recordsAfresh
   of-set set ss delivers agree fit =
@@ -95,10 +100,12 @@ module _ (buffer : List ℕ) (side : ℕ) (feature : List ℕ) (named : length f
       same r = (to, from)
         where
           to : In r (map recordOf set) → In r (sent feature side ss)
-          to m = let (s, n, e) = map-in recordOf set r m in rw e (in-map recordOf (kept test ss) s (kept-in test ss s .1 (delivers s .0 n)))
+          to m = let (s, n, e) = map-in recordOf set r m in
+              rw e (in-map recordOf (kept test ss) s (kept-in test ss s .1 (delivers s .0 n)))
 
           from : In r (sent feature side ss) → In r (map recordOf set)
-          from m = let (s, n, e) = map-in recordOf (kept test ss) r m in rw e (in-map recordOf set s (delivers s .1 (kept-in test ss s .0 n)))
+          from m = let (s, n, e) = map-in recordOf (kept test ss) r m in
+              rw e (in-map recordOf set s (delivers s .1 (kept-in test ss s .0 n)))
 
 -- WHAT AFRESH MEANS: the records worked out afresh are a table of the set
 pub afresh-is : (set : List (List ℕ)) → TableOf set (recordsAfresh set)

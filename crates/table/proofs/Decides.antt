@@ -58,4 +58,5 @@ module _ (room : ℕ) (r : List ℕ) (rs : List (List ℕ)) (up : Up rs) where
 pub answers : (t s : List ℕ) → checkTable Both t ≡ Sound → checkSlice (strideOf t) (featureOf t) (sideOf t) s ≡ Sound
     → Decided (roomOf (recordSize (strideOf t)) t) (recordOf s) (recordsOf (recordSize (strideOf t)) t) (arrivalOf t s)
 answers t s e d =
-    rw (slice-passes t s e d) (decided _ (recordOf s) (recordsOf (recordSize (strideOf t)) t) (order-in _ (sound-table Both t e .rising)))
+    rw (slice-passes t s e d)
+    (decided _ (recordOf s) (recordsOf (recordSize (strideOf t)) t) (order-in _ (sound-table Both t e .rising)))

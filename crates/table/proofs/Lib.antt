@@ -10,19 +10,19 @@ pub mod Replies
 -- a table that passes 1 to 7 passes them after any arrival
 pub mod Stays
 -- what any arrival leaves as it was, and what it makes of the records
-pub mod Arrived
+pub mod ArrivalEffect
 -- deliveries to a table are deliveries to its list of records; what a new table is
-pub mod Delivered
+pub mod Deliveries
 -- what a table that passes 1 to 7 is, and what that leaves of an arrival's answer
 pub mod Sound
 -- what a table keeps when other records are written into it
-pub mod Kept
+pub mod SameHeader
 -- the answer to a record, from the stored record of its key, the corrections and the room
 pub mod Answers
 -- the new table, written part by part
-pub mod Made
+pub mod NewTable
 -- a table with other records, from the bytes that are moved and written
-pub mod Written
+pub mod TableBytes
 -- the search by key: the place it ends at, and the record stored there
 pub mod Search
 -- the loops over a table's records: what each finds from record i on

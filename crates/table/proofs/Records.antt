@@ -40,10 +40,12 @@ module _ (size : ℕ) (t : List ℕ) where
   record-is i h r = rw (lt-ltb i (roomOf size t) (omega arith)) (sym (piece-at size (countOf t) (drop 32 t) [] i h ∙ rw drop-drop))
 
   pub record-in : (i : ℕ) → i < countOf t → countOf t ≤ roomOf size t → In (recordAt size i t) (recordsOf size t)
-  record-in i h r = subst (λ x. In x (recordsOf size t)) (sym (record-is i h r)) (getD-in (recordsOf size t) i [] (omega (arith, records-length)))
+  record-in i h r =
+      subst (λ x. In x (recordsOf size t)) (sym (record-is i h r)) (getD-in (recordsOf size t) i [] (omega (arith, records-length)))
 
   -- what a walk that has come to record i has before it
-  pub rest-at : (i : ℕ) → i < countOf t → countOf t ≤ roomOf size t → drop i (recordsOf size t) ≡ recordAt size i t ∷ drop (i + 1) (recordsOf size t)
+  pub rest-at : (i : ℕ) → i < countOf t → countOf t ≤ roomOf size t
+      → drop i (recordsOf size t) ≡ recordAt size i t ∷ drop (i + 1) (recordsOf size t)
   rest-at i h r =
       rw (record-is i h r, add-one i) (drop-cons (recordsOf size t) i [] (omega (arith, records-length)))
 

@@ -10,7 +10,8 @@ use lib.Dec.{ltb}
 use borrow.Author.Tests.{ltb-true, ltb-false}
 use Rattle.laws.specs.Lists.{insertedAt, replacedAt}
 use Rattle.laws.proofs.Tests.{by-test, and-both}
-use Rattle.laws.proofs.Places.{place-most, place-above, place-below, rises-rising, stored-held, stored-end, stored-none, put-new, put-held}
+use Rattle.laws.proofs.Places.{place-most, place-above, place-below, rises-rising, stored-held, stored-end, stored-none, put-new}
+use Rattle.laws.proofs.Places.{put-held}
 use Rattle.slice.specs.Record.{keyOf, keyLess, sameKey}
 use Rattle.slice.specs.declared.record.Key.{Key}
 use Rattle.slice.proofs.Keys.{key-order}
@@ -28,16 +29,20 @@ module _ (size : ℕ) (t : List ℕ) (k : Key) where
 
   module _ (roomy : countOf t ≤ roomOf size t) (i : ℕ) (h : i < countOf t) where
     -- record i comes before the key: so does its place
-    pub place-past : inOrder (recordsOf size t) ≡ true → keyLess (keyOf (recordAt size i t)) k ≡ true → i < placeFor k (recordsOf size t)
+    pub place-past : inOrder (recordsOf size t) ≡ true → keyLess (keyOf (recordAt size i t)) k ≡ true
+        → i < placeFor k (recordsOf size t)
     unfolding placeFor inOrder
     place-past up e =
-        place-above keyOf keyLess sameKey key-order k (recordsOf size t) (rises-rising keyOf keyLess sameKey key-order (recordsOf size t) up) i [] (omega (arith, records-length size t))
+        place-above keyOf keyLess sameKey key-order k (recordsOf size t)
+        (rises-rising keyOf keyLess sameKey key-order (recordsOf size t) up) i [] (omega (arith, records-length size t))
         (rw (record-is size t i h roomy) at e)
 
     -- it does not
     pub place-not-past : keyLess (keyOf (recordAt size i t)) k ≡ false → placeFor k (recordsOf size t) ≤ i
     unfolding placeFor
-    place-not-past e = place-below keyOf keyLess sameKey key-order k (recordsOf size t) i [] (omega (arith, records-length size t)) (rw (record-is size t i h roomy) at e)
+    place-not-past e =
+        place-below keyOf keyLess sameKey key-order k (recordsOf size t) i [] (omega (arith, records-length size t))
+        (rw (record-is size t i h roomy) at e)
 
 -- ---- what the search tells of a record r
 module _ (r : List ℕ) (rs : List (List ℕ)) where
@@ -64,8 +69,10 @@ module _ (r : List ℕ) (rs : List (List ℕ)) where
     unfolding storedOf placeFor holds inOrder
     not-stored =
         by-test (ltb at (length rs))
-        (λ l. stored-none keyOf keyLess sameKey key-order (keyOf r) rs (rises-rising keyOf keyLess sameKey key-order rs up) [] (ltb-true _ _ l) (rw l at h))
-        (λ l. stored-end keyOf keyLess sameKey key-order (keyOf r) rs (omega (arith, ltb-false at (length rs) l, place-most keyOf keyLess sameKey key-order (keyOf r) rs)))
+        (λ l. stored-none keyOf keyLess sameKey key-order (keyOf r) rs (rises-rising keyOf keyLess sameKey key-order rs up) []
+        (ltb-true _ _ l) (rw l at h))
+        (λ l. stored-end keyOf keyLess sameKey key-order (keyOf r) rs
+        (omega (arith, ltb-false at (length rs) l, place-most keyOf keyLess sameKey key-order (keyOf r) rs)))
 
     pub new-filed : filed r rs ≡ insertedAt at r rs
     unfolding filed placeFor storedOf

@@ -55,8 +55,13 @@ module _ (sides : Sides) (t : List ℕ) where
   pub table-sound : SoundTable (strideOf t) sides t → checkTable sides t ≡ Sound
   unfolding checkTable tableTests
   table-sound h =
-      answer-given refused Sound (tableTests (strideOf t) sides t)
-      (le-ltb _ _ (h .headed), (rw (h .letters, h .side), (ap not (eq-eqb _ _ (h .version)), (ap not (h .reserved), (le-ltb _ _ (h .roomy), (h .sound, (ap not (h .rising), tt)))))))
+      answer-given refused Sound (tableTests (strideOf t) sides t) (
+        le-ltb _ _ (h .headed),
+        (
+          rw (h .letters, h .side),
+          (ap not (eq-eqb _ _ (h .version)), (ap not (h .reserved), (le-ltb _ _ (h .roomy), (h .sound, (ap not (h .rising), tt))))),
+        ),
+      )
 
   -- 5 and 7 alone
   pub sound-order : SoundTable (strideOf t) sides t → checkOrder t ≡ Sound
@@ -104,10 +109,12 @@ module _ (t s : List ℕ) where
         joined ∙ answer-given refusedArrival (refuse refusedArrival slice-tests filing) (tableTests (strideOf t) Both t)
         (given-passed refused Sound refused-apart (tableTests (strideOf t) Both t) e)
 
-    pub slice-refuses : (f : Refusal) → checkSlice (strideOf t) (featureOf t) (sideOf t) s ≡ Refused f → arrivalOf t s ≡ arrival.Refused f
+    pub slice-refuses : (f : Refusal) → checkSlice (strideOf t) (featureOf t) (sideOf t) s ≡ Refused f
+        → arrivalOf t s ≡ arrival.Refused f
     unfolding checkSlice
     slice-refuses f d =
-        past ∙ number-given refusedArrival filing (f .number) slice-tests (given-number refused Sound refused-apart refused-tells (f .number) slice-tests d)
+        past ∙ number-given refusedArrival filing (f .number) slice-tests
+        (given-number refused Sound refused-apart refused-tells (f .number) slice-tests d)
 
     pub slice-passes : checkSlice (strideOf t) (featureOf t) (sideOf t) s ≡ Sound → arrivalOf t s ≡ filing
     unfolding checkSlice

@@ -35,7 +35,8 @@ use Rattle.table.proofs.Records.{room-fits, room-most, records-length}
 use Rattle.table.specs.declared.arrival.Arrival.{Arrival}
 use Rattle.table.proofs.Sound.{SoundTable, sound-table, table-sound, table-refuses, slice-refuses, slice-passes}
 use Rattle.table.proofs.Answers.{is-replaced, is-superseded, is-repeat, is-17, filing-held, filing-full, filing-new}
-use Rattle.table.proofs.Kept.{same-letters, same-side, same-version, same-reserved, same-room, written-alike, written-count, written-records}
+use Rattle.table.proofs.SameHeader.{same-letters, same-side, same-version, same-reserved, same-room, written-alike}
+use Rattle.table.proofs.SameHeader.{written-count, written-records}
 
 -- ---- records that pass 11 to 16
 module _ (stride side : ℕ) where
@@ -58,8 +59,11 @@ module _ (stride side : ℕ) where
   good-sized rs g r m = sound-record stride side r (g r m) .size
 
 -- each record of a sound table is sound
-pub sound-in : (sides : Sides) (t : List ℕ) → checkTable sides t ≡ Sound → (r : List ℕ) → In r (recordsOf (recordSize (strideOf t)) t) → SoundRecord (strideOf t) r (sideOf t)
-sound-in sides t e r m = sound-record (strideOf t) (sideOf t) r (all-good (strideOf t) (sideOf t) (recordsOf (recordSize (strideOf t)) t) (sound-table sides t e .sound) r m)
+pub sound-in : (sides : Sides) (t : List ℕ) → checkTable sides t ≡ Sound → (r : List ℕ)
+    → In r (recordsOf (recordSize (strideOf t)) t) → SoundRecord (strideOf t) r (sideOf t)
+sound-in sides t e r m =
+    sound-record (strideOf t) (sideOf t) r
+    (all-good (strideOf t) (sideOf t) (recordsOf (recordSize (strideOf t)) t) (sound-table sides t e .sound) r m)
 
 -- strictly rising by key, as a test and as a fact
 abbrev pub Up : List (List ℕ) → Type 0
@@ -85,7 +89,8 @@ module _ (stride : ℕ) (sides : Sides) (t : List ℕ) (h : SoundTable stride si
     pub within : 32 + length (joined us) ≤ length t
     within =
         rw (joined-length size us sized)
-        (by-test (eqb (length us) 0) (λ e. rw (eqb-true (length us) 0 e, zero-mul size) (h .headed)) (λ e. room-fits size t (length us) (omega (arith, eqb-false (length us) 0 e)) fits))
+        (by-test (eqb (length us) 0) (λ e. rw (eqb-true (length us) 0 e, zero-mul size) (h .headed))
+        (λ e. room-fits size t (length us) (omega (arith, eqb-false (length us) 0 e)) fits))
 
     pub few : length us < 65536
     few = omega (arith, room-most size t)
@@ -113,7 +118,9 @@ module _ (room : ℕ) (r : List ℕ) (rs : List (List ℕ)) (t : List ℕ) where
 
   -- the table is left alone and so are the records, or the table is written with the records that the arrival makes
   abbrev pub Changes : Type 0
-  Changes = ((changed (filingOf room r rs) t (filed r rs) ≡ t) × (after-arrival ≡ rs)) ⊎ (changed (filingOf room r rs) t (filed r rs) ≡ written t after-arrival)
+  Changes =
+      ((changed (filingOf room r rs) t (filed r rs) ≡ t) × (after-arrival ≡ rs))
+      ⊎ (changed (filingOf room r rs) t (filed r rs) ≡ written t after-arrival)
 
   -- what an answer makes of the table
   answered : (a : Arrival) → filingOf room r rs ≡ a → changed (filingOf room r rs) t (filed r rs) ≡ changed a t (filed r rs)
@@ -128,7 +135,8 @@ module _ (room : ℕ) (r : List ℕ) (rs : List (List ℕ)) (t : List ℕ) where
   left-alone : (a : Arrival) → filingOf room r rs ≡ a → changed a t (filed r rs) ≡ t → after-arrival ≡ rs → Changes
   left-alone a e c k = inl (answered a e ∙ c, k)
 
-  put-there : (a : Arrival) → filingOf room r rs ≡ a → changed a t (filed r rs) ≡ written t (filed r rs) → after-arrival ≡ filed r rs → Changes
+  put-there : (a : Arrival) → filingOf room r rs ≡ a → changed a t (filed r rs) ≡ written t (filed r rs)
+      → after-arrival ≡ filed r rs → Changes
   put-there a e c k = inr (answered a e ∙ c ∙ ap (written t) (sym k))
 
   pub filing-changes : Changes
@@ -172,7 +180,8 @@ module _ (t s : List ℕ) where
     filed-by d = by-answer _ (slice-passes t s e d)
 
 -- what an arrival of a good record keeps of good records that rise and fit
-pub arrival-keeps : (stride side room : ℕ) (rs : List (List ℕ)) (r : List ℕ) → Up rs → length rs ≤ room → ((x : List ℕ) → In x rs → Good stride side x) → Good stride side r
+pub arrival-keeps : (stride side room : ℕ) (rs : List (List ℕ)) (r : List ℕ) → Up rs → length rs ≤ room
+    → ((x : List ℕ) → In x rs → Good stride side x) → Good stride side r
     → Kept keyOf keyLess sameKey (Good stride side) room rs (arrived keyOf keyLess sameKey correctionOf lowerCorrection room r rs)
 arrival-keeps stride side room rs r up h g d =
     arrived-kept keyOf keyLess sameKey key-order correctionOf lowerCorrection (Good stride side) room rs r up h g d
@@ -193,9 +202,11 @@ module _ (t s : List ℕ) where
   pub left-or-filed : (arrivedAt t s ≡ t) ⊎ Filed
   left-or-filed = go (checkTable Both t) refl
     where
-      by-slice : checkTable Both t ≡ Sound → (c : Checked) → checkSlice (strideOf t) (featureOf t) (sideOf t) s ≡ c → (arrivedAt t s ≡ t) ⊎ Filed
+      by-slice : checkTable Both t ≡ Sound → (c : Checked) → checkSlice (strideOf t) (featureOf t) (sideOf t) s ≡ c
+          → (arrivedAt t s ≡ t) ⊎ Filed
       by-slice e (Refused f) d = inl (left-by-slice t s e f d)
-      by-slice e Sound d = ⊎-elim (λ p. inl (filed-by t s e d ∙ p .0)) (λ p. inr (record { sound = e; writes = filed-by t s e d ∙ p; keeps = k }))
+      by-slice e Sound d =
+          ⊎-elim (λ p. inl (filed-by t s e d ∙ p .0)) (λ p. inr (record { sound = e; writes = filed-by t s e d ∙ p; keeps = k }))
           (filing-changes (room t s) (recordOf s) (stored-records t s) t)
         where
           h : SoundTable (strideOf t) Both t
@@ -203,7 +214,8 @@ module _ (t s : List ℕ) where
 
           k : Kept keyOf keyLess sameKey (Good (strideOf t) (sideOf t)) (room t s) (stored-records t s) made
           k =
-              arrival-keeps (strideOf t) (sideOf t) (room t s) (stored-records t s) (recordOf s) (order-in _ (h .rising)) (omega (arith, h .roomy, records-length (recordSize (strideOf t)) t))
+              arrival-keeps (strideOf t) (sideOf t) (room t s) (stored-records t s) (recordOf s) (order-in _ (h .rising))
+              (omega (arith, h .roomy, records-length (recordSize (strideOf t)) t))
               (all-good (strideOf t) (sideOf t) (stored-records t s) (h .sound)) (sound-slice _ _ _ s d .sound)
 
       go : (c : Checked) → checkTable Both t ≡ c → (arrivedAt t s ≡ t) ⊎ Filed
@@ -215,5 +227,6 @@ pub still-sound : (sides : Sides) (t s : List ℕ) → checkTable sides t ≡ So
 still-sound sides t s sound =
     ⊎-elim (λ e. ap (checkTable sides) e ∙ sound)
     (λ f. let k = f .keeps in
-    ap (checkTable sides) (f .writes) ∙ table-sound sides _ (stays (strideOf t) sides t (sound-table sides t sound) _ (k .all) (k .fits) (k .up)))
+    ap (checkTable sides) (f .writes)
+    ∙ table-sound sides _ (stays (strideOf t) sides t (sound-table sides t sound) _ (k .all) (k .fits) (k .up)))
     (left-or-filed t s)

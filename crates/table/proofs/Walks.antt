@@ -49,9 +49,11 @@ module _ (size : ℕ) (t : List ℕ) where
       pub failing-here : (i : ℕ) → i < countOf t → fails stride side (recordAt size i t) ≡ true → failingFrom stride side i ≡ At i
       failing-here i h e = rw (rest-at size t i h roomy, e, add-zero)
 
-      pub failing-on : (i : ℕ) → i < countOf t → fails stride side (recordAt size i t) ≡ false → failingFrom stride side i ≡ failingFrom stride side (i + 1)
+      pub failing-on : (i : ℕ) → i < countOf t → fails stride side (recordAt size i t) ≡ false
+          → failingFrom stride side i ≡ failingFrom stride side (i + 1)
       failing-on i h e =
-          let n : i + suc (first (fails stride side) (left (i + 1))) ≡ i + 1 + first (fails stride side) (left (i + 1)) = omega arith in
+          let n : i + suc (first (fails stride side) (left (i + 1))) ≡ i + 1 + first (fails stride side) (left (i + 1)) =
+          omega arith in
           rw (rest-at size t i h roomy, e) (ap (λ (k : ℕ). cond (any (fails stride side) (left (i + 1))) (At k) Nowhere) n)
 
     pub order-start : 0 < countOf t → inOrder (recordsOf size t) ≡ risesOn (keyOf (recordAt size 0 t)) 1
@@ -61,7 +63,8 @@ module _ (size : ℕ) (t : List ℕ) where
     pub order-off : (k : Key) (i : ℕ) → i < countOf t → keyLess k (keyOf (recordAt size i t)) ≡ false → risesOn k i ≡ false
     order-off k i h e = rw (rest-at size t i h roomy, e)
 
-    pub order-on : (k : Key) (i : ℕ) → i < countOf t → keyLess k (keyOf (recordAt size i t)) ≡ true → risesOn k i ≡ risesOn (keyOf (recordAt size i t)) (i + 1)
+    pub order-on : (k : Key) (i : ℕ) → i < countOf t → keyLess k (keyOf (recordAt size i t)) ≡ true
+        → risesOn k i ≡ risesOn (keyOf (recordAt size i t)) (i + 1)
     order-on k i h e = rw (rest-at size t i h roomy, e)
 
 -- ---- what the search for a failing record tells

@@ -22,7 +22,8 @@ pub record Decided (room : ℕ) (r : List ℕ) (rs : List (List ℕ)) (a : Arriv
   -- no stored record has its kind and sequence
   pub added : ((x : List ℕ) → In x rs → keyOf x ≡ keyOf r → ⊥) → (length rs ≡ room → ⊥) → a ≡ Added
   pub full : ((x : List ℕ) → In x rs → keyOf x ≡ keyOf r → ⊥) → length rs ≡ room → a ≡ refusedArrival 18
-  -- x is the stored record of its kind and sequence: its correction is lower; it is higher; it is the same, with equal or other bytes
+  -- x is the stored record of its kind and sequence: its correction is lower; it is higher; it is the same, with equal or other
+  -- bytes
   pub replaced : (x : List ℕ) → In x rs → keyOf x ≡ keyOf r → lowerCorrection (correctionOf x) (correctionOf r) ≡ true
       → a ≡ Replaced
   pub superseded : (x : List ℕ) → In x rs → keyOf x ≡ keyOf r → lowerCorrection (correctionOf r) (correctionOf x) ≡ true
@@ -69,7 +70,7 @@ holding buffer side feature rs = headerOf side feature (length rs) ++ (joined rs
 abbrev pub tableAfresh : List ℕ → ℕ → List ℕ → List (List ℕ) → List ℕ
 tableAfresh buffer side feature set = holding buffer side feature (recordsAfresh set)
 
--- what it is to be the records of a set's table: they rise, they are in the set, and each record of the set is covered by one of its
--- kind and sequence whose correction is not lower
+-- what it is to be the records of a set's table: they rise, they are in the set, and each record of the set is covered by one of
+-- its kind and sequence whose correction is not lower
 abbrev pub TableOf : List (List ℕ) → List (List ℕ) → Type 0
 TableOf set rs = Fresh keyOf keyLess sameKey correctionOf lowerCorrection (λ r. In r set) rs

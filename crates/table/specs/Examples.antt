@@ -16,7 +16,8 @@ feature = replicate 16 7
 -- a TEMPDELTA of a sequence number, a correction number and a code, from 100 on; a correction that cancels it
 abbrev change : ℕ → ℕ → ℕ → List ℕ
 change q c v =
-    feature ++ (tempdelta ∷ 0 ∷ 0 ∷ c ∷ 0 ∷ 0 ∷ 0 ∷ q ∷ 0 ∷ 0 ∷ 0 ∷ 100 ∷ replicate 12 255 ++ (replicate 8 0 ++ (2 ∷ replicate 7 0 ++ (0 ∷ v ∷ replicate 182 0))))
+    feature ++ (tempdelta ∷ 0 ∷ 0 ∷ c ∷ 0 ∷ 0 ∷ 0 ∷ q ∷ 0 ∷ 0 ∷ 0 ∷ 100 ∷ replicate 12 255
+    ++ (replicate 8 0 ++ (2 ∷ replicate 7 0 ++ (0 ∷ v ∷ replicate 182 0))))
 
 abbrev cancel : ℕ → ℕ → List ℕ
 cancel q c = feature ++ (tempdelta ∷ 1 ∷ 0 ∷ c ∷ 0 ∷ 0 ∷ 0 ∷ q ∷ replicate 16 255 ++ replicate 200 0)

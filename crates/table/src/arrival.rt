@@ -133,7 +133,8 @@ fn file(table: &mut [u8], size: usize, record: &[u8]) -> Arrival
 // one more. Replaced: it stands in the room of the stored one. Superseded and Repeat change nothing.
 pub fn arrive(table: &mut [u8], slice: &[u8]) -> Arrival
     ensures answer { λ r. ⌜ arrivalReply r ≡ arrivalReply (arrivalOf (now (table .entry)) (now (slice .entry))) ⌝ }
-    ensures buffer { λ r. ⌜ now (table .exit) ≡ after r (recordSize (strideOf (now (table .entry)))) (now (table .entry)) (recordOf (now (slice .entry))) ⌝ }
+    ensures buffer { λ r. ⌜ now (table .exit) ≡ after r (recordSize (strideOf (now (table .entry)))) (now (table .entry))
+        (recordOf (now (slice .entry))) ⌝ }
 {
     if let Checked::Refused(refusal) = check_table(table, Sides::Both) {
         return Arrival::Refused(refusal);

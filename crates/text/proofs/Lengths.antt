@@ -43,11 +43,24 @@ line-most stride r =
     let c = endOf (periodOf r .end) in
     let f = map formOf (partsOf stride r) in
     let eight : length f ≡ 8 = length-map (partsOf stride r) formOf ∙ length-pieces stride 8 (drop 32 r) in
-    omega (arith, length-append a (32 ∷ b ++ (32 ∷ c ++ (32 ∷ f ++ (10 ∷ [])))), length-append b (32 ∷ c ++ (32 ∷ f ++ (10 ∷ []))), length-append c (32 ∷ f ++ (10 ∷ [])), length-append f (10 ∷ []), eight, decimal-most (sequenceOf r .0), decimal-most (periodOf r .begin .0), end-most (periodOf r .end))
+    omega (
+      arith,
+      length-append a (32 ∷ b ++ (32 ∷ c ++ (32 ∷ f ++ (10 ∷ [])))),
+      length-append b
+          (32 ∷ c ++ (32 ∷ f ++ (10 ∷ []))),
+      length-append c (32 ∷ f ++ (10 ∷ [])),
+      length-append f (10 ∷ []),
+      eight,
+      decimal-most
+          (sequenceOf r .0),
+      decimal-most (periodOf r .begin .0),
+      end-most (periodOf r .end),
+    )
 
 lines-most : (stride : ℕ) (rs : List (List ℕ)) → length (joined (map (lineOf stride) rs)) ≤ 42 * length rs
 lines-most stride [] = omega arith
-lines-most stride (r ∷ rs) = omega (arith, length-append (lineOf stride r) (joined (map (lineOf stride) rs)), line-most stride r, lines-most stride rs)
+lines-most stride (r ∷ rs) =
+    omega (arith, length-append (lineOf stride r) (joined (map (lineOf stride) rs)), line-most stride r, lines-most stride rs)
 
 -- 256 lines, and the one before them
 pub listing-most : (p : List ℕ) → length (listingOf p) ≤ 10771
@@ -57,7 +70,14 @@ listing-most p = go (derivationOf p (replicate 57376 0)) refl
     go : (d : Derivation) → derivationOf p (replicate 57376 0) ≡ d → length (textOf d (strideOf p) (derivedRecords p)) ≤ 10771
     go (Derived n) e =
         let lines = joined (map (lineOf (strideOf p)) (derivedRecords p)) in
-        omega (arith, length-append (decimalOf n) (10 ∷ lines), decimal-most n, lines-most (strideOf p) (derivedRecords p), derived-told p (replicate 57376 0) n e .few)
+        omega (
+          arith,
+          length-append (decimalOf n) (10 ∷ lines),
+          decimal-most n,
+          lines-most (strideOf p)
+              (derivedRecords p),
+          derived-told p (replicate 57376 0) n e .few,
+        )
     go (Refused f) e = omega (arith, length-append (decimalOf (f .number)) (10 ∷ []), decimal-most (f .number))
 
 -- what putting a text answers is its length
@@ -67,4 +87,5 @@ lengthIn (Needs n) = n
 
 pub put-length : (text buffer : List ℕ) → lengthIn (putOf text buffer) ≡ length text
 unfolding putOf
-put-length text buffer = pick-ind (λ (l : Listing). lengthIn l ≡ length text) (ltb (length buffer) (length text)) (λ _. refl) (λ _. refl)
+put-length text buffer =
+    pick-ind (λ (l : Listing). lengthIn l ≡ length text) (ltb (length buffer) (length text)) (λ _. refl) (λ _. refl)

@@ -32,7 +32,8 @@ abbrev table : List (List ℕ) → List ℕ
 table rs = headerOf permanent (replicate 16 7) (length rs) ++ joined rs
 
 -- BASELINE sequence 1 from 100, life begin 100, no end, all nil, and PERMDELTA sequence 1 at 300, property 0 a code
-pub paper : listingOf (table (entry baseline 1 100 none 100 none nil nil ∷ entry permdelta 1 300 none none none (code 7) blank ∷ []))
+pub paper : listingOf
+    (table (entry baseline 1 100 none 100 none nil nil ∷ entry permdelta 1 300 none none none (code 7) blank ∷ []))
     ≡ 100 ∷ 101 ∷ 114 ∷ 105 ∷ 118 ∷ 101 ∷ 100 ∷ 32 ∷ 50 ∷ 10
     ∷ 49 ∷ 32 ∷ 49 ∷ 48 ∷ 48 ∷ 32 ∷ 51 ∷ 48 ∷ 48 ∷ 32 ∷ 49 ∷ 49 ∷ 49 ∷ 49 ∷ 49 ∷ 49 ∷ 49 ∷ 49 ∷ 10
     ∷ 50 ∷ 32 ∷ 51 ∷ 48 ∷ 48 ∷ 32 ∷ 45 ∷ 32 ∷ 50 ∷ 49 ∷ 49 ∷ 49 ∷ 49 ∷ 49 ∷ 49 ∷ 49 ∷ 10 ∷ []

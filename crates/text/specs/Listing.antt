@@ -44,7 +44,8 @@ lineOf stride r =
 
 -- `derived N`, then a line a record; on a refusal `refused N`
 abbrev pub textOf : Derivation → ℕ → List (List ℕ) → List ℕ
-textOf (Derived n) stride rs = (100 ∷ 101 ∷ 114 ∷ 105 ∷ 118 ∷ 101 ∷ 100 ∷ 32 ∷ []) ++ (decimalOf n ++ (10 ∷ joined (map (lineOf stride) rs)))
+textOf (Derived n) stride rs =
+    (100 ∷ 101 ∷ 114 ∷ 105 ∷ 118 ∷ 101 ∷ 100 ∷ 32 ∷ []) ++ (decimalOf n ++ (10 ∷ joined (map (lineOf stride) rs)))
 textOf (Refused f) stride rs = (114 ∷ 101 ∷ 102 ∷ 117 ∷ 115 ∷ 101 ∷ 100 ∷ 32 ∷ []) ++ (decimalOf (f .number) ++ (10 ∷ []))
 
 -- of a permanent table, which is derived into 57,376 bytes

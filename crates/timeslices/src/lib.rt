@@ -47,7 +47,8 @@ pub struct Part {
 #[no_mangle]
 pub extern "C" fn tsl_new_table(table: &mut [u8], side: u8, feature: &[u8; 16]) -> Answer
     ensures answer { λ r. ⌜ r ≡ numbersOf (creationReply (creationOf (now (table .entry)) side)) ⌝ }
-    ensures buffer { λ r. ⌜ now (table .exit) ≡ created (creationOf (now (table .entry)) side) (now (table .entry)) side (now (feature .entry)) ⌝ }
+    ensures buffer { λ r. ⌜ now (table .exit) ≡ created (creationOf (now (table .entry)) side) (now (table .entry)) side
+        (now (feature .entry)) ⌝ }
 {
     match new_table(table, side, feature) {
         Creation::Made => Answer { kind: 1, number: 0 },
@@ -94,8 +95,11 @@ fn told(outcome: Outcome) -> Answer
 // byte as it was: 1 to 7 and 19 to 23.
 #[no_mangle]
 pub extern "C" fn tsl_permanent_state(permanent: &[u8], instant: u32, record: &mut [u8]) -> Answer
-    ensures answer { λ r. ⌜ r ≡ numbersOf (outcomeReply (permanentStateOf (now (permanent .entry)) (instantOf instant) (now («record» .entry)))) ⌝ }
-    ensures buffer { λ r. ⌜ now («record» .exit) ≡ afterState (permanentStateOf (now (permanent .entry)) (instantOf instant) (now («record» .entry))) (now (permanent .entry)) (instantOf instant) (now («record» .entry)) ⌝ }
+    ensures answer { λ r. ⌜ r
+        ≡ numbersOf (outcomeReply (permanentStateOf (now (permanent .entry)) (instantOf instant) (now («record» .entry)))) ⌝ }
+    ensures buffer { λ r. ⌜ now («record» .exit)
+        ≡ afterState (permanentStateOf (now (permanent .entry)) (instantOf instant) (now («record» .entry)))
+        (now (permanent .entry)) (instantOf instant) (now («record» .entry)) ⌝ }
 {
     told(permanent_state(permanent, Instant(instant), record))
 }
@@ -109,8 +113,12 @@ pub extern "C" fn tsl_snapshot(
     instant: u32,
     record: &mut [u8],
 ) -> Answer
-    ensures answer { λ r. ⌜ r ≡ numbersOf (outcomeReply (snapshotOf (now (permanent .entry)) (now (temporary .entry)) (instantOf instant) (now («record» .entry)))) ⌝ }
-    ensures buffer { λ r. ⌜ now («record» .exit) ≡ afterSnapshot (snapshotOf (now (permanent .entry)) (now (temporary .entry)) (instantOf instant) (now («record» .entry))) (now (permanent .entry)) (now (temporary .entry)) (instantOf instant) (now («record» .entry)) ⌝ }
+    ensures answer { λ r. ⌜ r
+        ≡ numbersOf
+        (outcomeReply (snapshotOf (now (permanent .entry)) (now (temporary .entry)) (instantOf instant) (now («record» .entry)))) ⌝ }
+    ensures buffer { λ r. ⌜ now («record» .exit) ≡ afterSnapshot
+        (snapshotOf (now (permanent .entry)) (now (temporary .entry)) (instantOf instant) (now («record» .entry)))
+        (now (permanent .entry)) (now (temporary .entry)) (instantOf instant) (now («record» .entry)) ⌝ }
 {
     told(snapshot(permanent, temporary, Instant(instant), record))
 }
@@ -139,7 +147,9 @@ pub extern "C" fn tsl_property(
     instant: u32,
     property: u8,
 ) -> Part
-    ensures { λ r. ⌜ r ≡ partOf (now (permanent .entry)) (now (temporary .entry)) (placeReply (placeOf (now (permanent .entry)) (now (temporary .entry)) (instantOf instant) property)) ⌝ }
+    ensures { λ r.
+        ⌜ r ≡ partOf (now (permanent .entry)) (now (temporary .entry))
+        (placeReply (placeOf (now (permanent .entry)) (now (temporary .entry)) (instantOf instant) property)) ⌝ }
 {
     match locate(permanent, temporary, Instant(instant), property) {
         Place::Permanent(place) => part_at(1, permanent, place),
@@ -186,7 +196,8 @@ pub extern "C" fn tsl_touched(temporary: &[u8], instant: u32, property: u8) -> A
 #[no_mangle]
 pub extern "C" fn tsl_derive(permanent: &[u8], output: &mut [u8]) -> Answer
     ensures answer { λ r. ⌜ r ≡ numbersOf (derivationReply (derivationOf (now (permanent .entry)) (now (output .entry)))) ⌝ }
-    ensures buffer { λ r. ⌜ now (output .exit) ≡ afterDeriving (derivationOf (now (permanent .entry)) (now (output .entry))) (now (permanent .entry)) (now (output .entry)) ⌝ }
+    ensures buffer { λ r. ⌜ now (output .exit) ≡ afterDeriving (derivationOf (now (permanent .entry)) (now (output .entry)))
+        (now (permanent .entry)) (now (output .entry)) ⌝ }
 {
     match derive(permanent, output) {
         Derivation::Derived(count) => Answer {
@@ -205,7 +216,8 @@ pub extern "C" fn tsl_derive(permanent: &[u8], output: &mut [u8]) -> Answer
 #[no_mangle]
 pub extern "C" fn tsl_listing(permanent: &[u8], text: &mut [u8]) -> Answer
     ensures answer { λ r. ⌜ r ≡ numbersOf (listingReply (putOf (listingOf (now (permanent .entry))) (now (text .entry)))) ⌝ }
-    ensures buffer { λ r. ⌜ now (text .exit) ≡ afterPut (putOf (listingOf (now (permanent .entry))) (now (text .entry))) (listingOf (now (permanent .entry))) (now (text .entry)) ⌝ }
+    ensures buffer { λ r. ⌜ now (text .exit) ≡ afterPut (putOf (listingOf (now (permanent .entry))) (now (text .entry)))
+        (listingOf (now (permanent .entry))) (now (text .entry)) ⌝ }
 {
     match list(permanent, text) {
         Listing::Text(length) => Answer {

@@ -3,7 +3,7 @@ use mathlib.Core.Path.{sym, _∙_}
 use native.Mathlib.Omega.{arith}
 use lib.Seq.{length-take-le}
 use Rattle.text.proofs.Replies.{listing-told}
-use Rattle.text.proofs.Said.{put-within}
+use Rattle.text.proofs.TextWriting.{put-within}
 use borrow.Author.Needs.{needs}
 use Rattle.listing.proofs.main.Statement.{statement}
 use Rattle.listing.proofs.main.Tie as tie

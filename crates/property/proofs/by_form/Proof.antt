@@ -10,7 +10,16 @@ no-form : tie.Need-returns-7
 unfolding formReading
 no-form c =
     let r = c .match .rest in
-    rw (← c .before .byte .ensures) (simp (ne-eqb _ _ (r .0 .0 .0 .0 .0 .1), ne-eqb _ _ (r .0 .0 .0 .0 .1), ne-eqb _ _ (r .0 .0 .0 .1), ne-eqb _ _ (r .0 .0 .1), ne-eqb _ _ (r .0 .1), ne-eqb _ _ (r .1)))
+    rw (← c .before .byte .ensures)
+    (simp (
+      ne-eqb _ _ (r .0 .0 .0 .0 .0 .1),
+      ne-eqb _ _ (r .0 .0 .0 .0 .1),
+      ne-eqb _ _ (r .0 .0 .0 .1),
+      ne-eqb _ _
+          (r .0 .0 .1),
+      ne-eqb _ _ (r .0 .1),
+      ne-eqb _ _ (r .1),
+    ))
 
 pub by-form-spec : {M : Type 1} → statement M
 by-form-spec =

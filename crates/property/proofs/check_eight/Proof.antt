@@ -1,5 +1,5 @@
--- `property::check_eight` meets its contract. The loop's invariant: what is found of the eight is what is found from property i on, which
--- starts at `at`, after so many mentions. Assumes nothing.
+-- `property::check_eight` meets its contract. The loop's invariant: what is found of the eight is what is found from property i on,
+-- which starts at `at`, after so many mentions. Assumes nothing.
 use Prim.Native.Nat.{ℕ, _+_, _-_, _≤_}
 use mathlib.Core.Path.{_≡_, sym, _∙_}
 use mathlib.Core.List.{List}
@@ -14,14 +14,16 @@ use Rattle.octets.specs.Bytes.{byteOf, filled}
 use Rattle.property.specs.Value.{mentions}
 use Rattle.property.specs.Layout.{decodeOf}
 use Rattle.property.specs.Eight.{isGood, surveyOf}
-use Rattle.property.proofs.Found.{foundFrom, found-start, found-end, breaks-less, turn-bad, turn-less, turn-broken, turn-mentioned, turn-silent}
+use Rattle.property.proofs.Found.{foundFrom, found-start, found-end, breaks-less, turn-bad, turn-less, turn-broken}
+use Rattle.property.proofs.Found.{turn-mentioned, turn-silent}
 use Rattle.property.proofs.Sound.{blank-told, bad-told}
 use Rattle.property.proofs.check_eight.Statement.{statement}
 use Rattle.property.proofs.check_eight.Tie as tie
 
 abbrev Inv-loop : tie.InvT-loop
 Inv-loop bytes stride at₀ mentioned₀ i₀ at mentioned i =
-    (i ≤ 8) × ((at ≤ length bytes) × ((mentioned ≤ i) × (surveyOf stride bytes ≡ foundFrom i mentioned (pieces stride (8 - i) (drop at bytes)))))
+    (i ≤ 8) × ((at ≤ length bytes)
+    × ((mentioned ≤ i) × (surveyOf stride bytes ≡ foundFrom i mentioned (pieces stride (8 - i) (drop at bytes)))))
 
 abbrev μ-loop : tie.MeasureT-loop
 μ-loop bytes stride at₀ mentioned₀ i₀ at mentioned i = 8 - i
@@ -33,10 +35,12 @@ by-either (inr b) f g = g b
 returns : tie.Need-returns Inv-loop μ-loop
 returns c =
     let a = c .before .before .args in
-    sym (found-start (a .stride) (a .bytes .now) ∙ turn-bad (a .stride) 0 0 (a .bytes .now) (omega arith) (breaks-less _ (simp length-take (omega arith))))
+    sym (found-start (a .stride) (a .bytes .now)
+    ∙ turn-bad (a .stride) 0 0 (a .bytes .now) (omega arith) (breaks-less _ (simp length-take (omega arith))))
 
 loop-holds : tie.Need-loop-holds Inv-loop μ-loop
-loop-holds c = (omega arith, (omega arith, (omega arith, found-start (c .before .before .args .stride) (c .before .before .args .bytes .now))))
+loop-holds c =
+    (omega arith, (omega arith, (omega arith, found-start (c .before .before .args .stride) (c .before .before .args .bytes .now))))
 
 abbrev start : tie.At-loop Inv-loop μ-loop → tie.Start Inv-loop μ-loop
 start l = l .before .before .before
@@ -73,20 +77,28 @@ returns-3 c =
     let d = m .before .before .before in
     let t = d .before .before .before in
     sym (t .before .loop .inv .1 .1 .1 ∙ turn-broken _ _ _ _ (t .loop-test .taken) (t .before .before .if1 .left)
-    (bad-told (piece d) (sized d) (sym (blank d) ∙ not-true _ (m .before .before .if3 .taken)) (sym (mention m) ∙ not-true _ (c .if4 .taken))))
+    (bad-told (piece d) (sized d) (sym (blank d) ∙ not-true _ (m .before .before .if3 .taken))
+    (sym (mention m) ∙ not-true _ (c .if4 .taken))))
 
 -- after a property
 step : (c : tie.Joined3 Inv-loop μ-loop) → let l = c .before .before .before .before .before in
     (c .if3 .mentioned ≤ l .loop .i + 1)
     × (surveyOf (start l .args .stride) (start l .args .bytes .now)
-    ≡ foundFrom (l .loop .i + 1) (c .if3 .mentioned) (pieces (start l .args .stride) (8 - (l .loop .i + 1)) (drop (start l .args .stride) (drop (l .loop .at) (start l .args .bytes .now)))))
+    ≡ foundFrom (l .loop .i + 1) (c .if3 .mentioned)
+    (pieces (start l .args .stride) (8 - (l .loop .i + 1))
+    (drop (start l .args .stride) (drop (l .loop .at) (start l .args .bytes .now)))))
 step c =
     let t = c .before .before .before .before in
     by-either (c .if3 .came)
     (λ x. (
       omega (arith, x .4),
       rw (x .4) (t .before .loop .inv .1 .1 .1 ∙ turn-mentioned _ _ _ _ (t .loop-test .taken) (t .before .before .if1 .left)
-          (sym (mention (record { before = record { before = record { before = c .before; if3 = x .0 }; is-mentioned-arg = x .1 }; is-mentioned = x .2 })) ∙ not-false _ (x .3 .left))),
+          (sym (mention
+          (record {
+            before = record { before = record { before = c .before; if3 = x .0 }; is-mentioned-arg = x .1 };
+            is-mentioned =
+                x .2;
+          })) ∙ not-false _ (x .3 .left))),
     ))
     (λ x. (
       omega (arith, x .1),

@@ -7,7 +7,13 @@ use Rattle.property.proofs.code.Tie as tie
 returns : tie.Need-returns
 unfolding codeOf
 returns c =
-    rw (c .kept .ensures, c .before .be16 .ensures, c .before .before .unused-from-10 .ensures, c .before .before .before .byte .ensures)
+    rw (
+      c .kept .ensures,
+      c .before .be16 .ensures,
+      c .before .before .unused-from-10 .ensures,
+      c .before .before .before .byte
+          .ensures,
+    )
 
 pub code-spec : {M : Type 1} → statement M
 code-spec =

@@ -1,4 +1,5 @@
--- `property::in_unit` meets its contract: in each arm the detail is that arm's number, and in the last none of them. Assumes nothing.
+-- `property::in_unit` meets its contract: in each arm the detail is that arm's number, and in the last none of them. Assumes
+-- nothing.
 use borrow.Author.Tests.{ne-eqb}
 use Rattle.property.proofs.in_unit.Statement.{statement}
 use Rattle.property.proofs.in_unit.Tie as tie
@@ -11,4 +12,10 @@ in-unit-spec =
     (λ c. rw (c .match .keys2))
     (λ c. rw (c .match .keys3))
     (λ c. rw (c .match .keys4))
-    (λ c. simp (ne-eqb _ _ (c .match .rest .0 .0 .0 .1), ne-eqb _ _ (c .match .rest .0 .0 .1), ne-eqb _ _ (c .match .rest .0 .1), ne-eqb _ _ (c .match .rest .1))))
+    (λ c. simp (
+      ne-eqb _ _ (c .match .rest .0 .0 .0 .1),
+      ne-eqb _ _ (c .match .rest .0 .0 .1),
+      ne-eqb _ _ (c .match .rest .0 .1),
+      ne-eqb _ _
+          (c .match .rest .1),
+    )))

@@ -8,7 +8,8 @@ use Rattle.property.proofs.is_code.Tie as tie
 returns : tie.Need-returns
 returns c =
     let s = c .before .before in
-    rw (c .unused-from-10 .ensures, c .before .be16 .ensures) (code-told (s .before .args .p .now) (λ i. s .shared-slice-known .given i .fits) (omega arith))
+    rw (c .unused-from-10 .ensures, c .before .be16 .ensures)
+    (code-told (s .before .args .p .now) (λ i. s .shared-slice-known .given i .fits) (omega arith))
 
 pub is-code-spec : {M : Type 1} → statement M
 is-code-spec = tie.close (tie.spec (λ c κs. search needs) (λ c κs. search needs) returns)

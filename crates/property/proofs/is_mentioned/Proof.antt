@@ -13,7 +13,14 @@ returns c =
     let s = n .before .before in
     let p = s .before .args .p .now in
     early (unused 2 7 p) (fourForms p) (pointForm p)
-    (rw (n .before .blank-past-two .ensures, n .is-nil .ensures, c .before .before .before .is-code .ensures, c .before .before .is-number .ensures, c .before .is-length .ensures) at (c .if1 .taken))
+    (rw (
+      n .before .blank-past-two .ensures,
+      n .is-nil .ensures,
+      c .before .before .before .is-code .ensures,
+      c .before .before
+          .is-number .ensures,
+      c .before .is-length .ensures,
+    ) at (c .if1 .taken))
     ∙ sym (mentioned-told (s .before .args .p .now) (λ i. s .shared-slice-known .given i .fits) (omega arith))
 
 returns-2 : tie.Need-returns-2
@@ -23,7 +30,13 @@ returns-2 c =
     let s = n .before .before in
     let p = s .before .args .p .now in
     rw (n .before .blank-past-two .ensures, c .is-point .ensures) (late (unused 2 7 p) (fourForms p) (pointForm p)
-    (rw (n .before .blank-past-two .ensures, n .is-nil .ensures, l .before .before .is-code .ensures, l .before .is-number .ensures, l .is-length .ensures) at (c .before .if1 .left))
+    (rw (
+      n .before .blank-past-two .ensures,
+      n .is-nil .ensures,
+      l .before .before .is-code .ensures,
+      l .before .is-number .ensures,
+      l .is-length .ensures,
+    ) at (c .before .if1 .left))
     ∙ sym (mentioned-told p (λ i. s .shared-slice-known .given i .fits) (omega arith)))
 
 pub is-mentioned-spec : {M : Type 1} → statement M

@@ -7,7 +7,13 @@ use Rattle.property.proofs.nil.Tie as tie
 returns : tie.Need-returns
 unfolding nilOf
 returns c =
-    rw (c .kept .ensures, c .before .nil-of .ensures, c .before .before .byte .ensures, c .before .before .before .unused-from-8 .ensures)
+    rw (
+      c .kept .ensures,
+      c .before .nil-of .ensures,
+      c .before .before .byte .ensures,
+      c .before .before .before .unused-from-8
+          .ensures,
+    )
 
 pub nil-spec : {M : Type 1} → statement M
 nil-spec =

@@ -11,8 +11,11 @@ use Rattle.property.proofs.past.Tie as tie
 returns : tie.Need-returns
 returns c =
     let a = c .before .args in
-    let h : length (a .bytes .now) ≤ a .at + a .stride = omega arith in
-    (omega arith, drop-length (a .bytes .now) ∙ sym (drop-drop (a .stride) (a .at) (a .bytes .now) ∙ drop-of-length-le (a .bytes .now) h))
+    let h : length (a .bytes .now) ≤ a .at + a .stride = omega arith in (
+      omega arith,
+      drop-length (a .bytes .now)
+          ∙ sym (drop-drop (a .stride) (a .at) (a .bytes .now) ∙ drop-of-length-le (a .bytes .now) h),
+    )
 
 returns-2 : tie.Need-returns-2
 returns-2 c =

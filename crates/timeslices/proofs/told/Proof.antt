@@ -13,4 +13,7 @@ numbers o = numbersOf (outcomeReply o)
 
 pub told-spec : {M : Type 1} → statement M
 unfolding outcomeReply
-told-spec = tie.close (tie.spec (λ c. search needs) (λ c. search needs) (λ c. search needs) (λ c. ap numbers (sym (c .enum-told .given .1))) (λ c. ap numbers (sym (c .before .before .outcome .given .1))))
+told-spec =
+    tie.close
+    (tie.spec (λ c. search needs) (λ c. search needs) (λ c. search needs) (λ c. ap numbers (sym (c .enum-told .given .1)))
+    (λ c. ap numbers (sym (c .before .before .outcome .given .1))))

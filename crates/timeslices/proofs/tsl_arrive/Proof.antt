@@ -10,7 +10,9 @@ use Rattle.timeslices.proofs.tsl_arrive.Tie as tie
 
 -- the answer by its numbers, and the table after it
 numbered : (c : tie.After-arrive) (a : Arrival) → c .arrive .result ≡ a
-    → let g = c .before .before .before .before .args in (numbersOf (arrivalReply a) ≡ numbersOf (arrivalReply (arrivalOf (g .table .now) (g .slice .now)))) × (c .arrive .last .0 ≡ arrivedAt (g .table .now) (g .slice .now))
+    → let g = c .before .before .before .before .args in
+    (numbersOf (arrivalReply a) ≡ numbersOf (arrivalReply (arrivalOf (g .table .now) (g .slice .now))))
+    × (c .arrive .last .0 ≡ arrivedAt (g .table .now) (g .slice .now))
 numbered c a e =
     let x = c .arrive .ensures in
     (ap numbersOf (sym (ap arrivalReply e) ∙ x .0), rw (arrival-told _ _ (x .0)) at (x .1))

@@ -12,7 +12,10 @@ use Rattle.timeslices.proofs.tsl_derive.Tie as tie
 
 -- the answer by its numbers, and the output after it
 numbered : (c : tie.After-derive) (a : Derivation) → c .derive .result ≡ a
-    → let g = c .before .before .before .before .args in (numbersOf (derivationReply a) ≡ numbersOf (derivationReply (derivationOf (g .permanent .now) (g .output .now)))) × (c .derive .last .1 .0 ≡ afterDeriving (derivationOf (g .permanent .now) (g .output .now)) (g .permanent .now) (g .output .now))
+    → let g = c .before .before .before .before .args in
+    (numbersOf (derivationReply a) ≡ numbersOf (derivationReply (derivationOf (g .permanent .now) (g .output .now))))
+    × (c .derive .last .1 .0 ≡ afterDeriving (derivationOf (g .permanent .now) (g .output .now)) (g .permanent .now)
+    (g .output .now))
 numbered c a e =
     let x = c .derive .ensures in
     (ap numbersOf (sym (ap derivationReply e) ∙ x .0), rw (derivation-told _ _ (x .0)) at (x .1))

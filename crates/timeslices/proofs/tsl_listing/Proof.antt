@@ -13,7 +13,10 @@ use Rattle.timeslices.proofs.tsl_listing.Tie as tie
 
 -- the answer by its numbers, and the text after it
 numbered : (c : tie.After-list) (a : Listing) → c .list .result ≡ a
-    → let g = c .before .before .before .before .args in (numbersOf (listingReply a) ≡ numbersOf (listingReply (putOf (listingOf (g .permanent .now)) (g .text .now)))) × (c .list .last .1 .0 ≡ afterPut (putOf (listingOf (g .permanent .now)) (g .text .now)) (listingOf (g .permanent .now)) (g .text .now))
+    → let g = c .before .before .before .before .args in
+    (numbersOf (listingReply a) ≡ numbersOf (listingReply (putOf (listingOf (g .permanent .now)) (g .text .now))))
+    × (c .list .last .1 .0 ≡ afterPut (putOf (listingOf (g .permanent .now)) (g .text .now)) (listingOf (g .permanent .now))
+    (g .text .now))
 numbered c a e =
     let x = c .list .ensures in
     (ap numbersOf (sym (ap listingReply e) ∙ x .0), rw (listing-told _ _ (x .0)) at (x .1))
@@ -22,7 +25,8 @@ numbered c a e =
 short : (c : tie.After-list) (a : Listing) → c .list .result ≡ a → lengthIn a ≤ 10771
 short c a e =
     let g = c .before .before .before .before .args in
-    let l : lengthIn a ≡ _ = ap lengthIn (sym e ∙ listing-told _ _ (c .list .ensures .0)) ∙ put-length (listingOf (g .permanent .now)) (g .text .now) in
+    let l : lengthIn a ≡ _ = ap lengthIn (sym e ∙ listing-told _ _ (c .list .ensures .0))
+    ∙ put-length (listingOf (g .permanent .now)) (g .text .now) in
     omega (arith, l, listing-most (g .permanent .now))
 
 pub tsl-listing-spec : {M : Type 1} → statement M

@@ -11,7 +11,8 @@ use Rattle.timeslices.proofs.tsl_new_table.Tie as tie
 -- the answer by its numbers, and the table after it
 numbered : (c : tie.After-new-table) (a : Creation) → c .new-table .result ≡ a
     → let g = c .before .before .before .args in
-    (numbersOf (creationReply a) ≡ numbersOf (creationReply (creationOf (g .table .now) (g .side)))) × (c .new-table .last .0 ≡ created (creationOf (g .table .now) (g .side)) (g .table .now) (g .side) (g .feature .now))
+    (numbersOf (creationReply a) ≡ numbersOf (creationReply (creationOf (g .table .now) (g .side))))
+    × (c .new-table .last .0 ≡ created (creationOf (g .table .now) (g .side)) (g .table .now) (g .side) (g .feature .now))
 numbered c a e =
     let x = c .new-table .ensures in
     (ap numbersOf (sym (ap creationReply e) ∙ x .0), rw (creation-told _ _ (x .0)) at (x .1))

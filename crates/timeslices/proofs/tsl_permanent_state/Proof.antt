@@ -13,9 +13,13 @@ use Rattle.timeslices.proofs.tsl_permanent_state.Statement.{statement}
 use Rattle.timeslices.proofs.tsl_permanent_state.Tie as tie
 
 -- the answer by its numbers, and the record after it
-numbered : (p : List ℕ) (i : Instant) (b s : List ℕ) (o : Outcome) (a : Answer) → a ≡ numbersOf (outcomeReply o) → (outcomeReply o ≡ outcomeReply (permanentStateOf p i b)) × (s ≡ afterState o p i b)
+numbered : (p : List ℕ) (i : Instant) (b s : List ℕ) (o : Outcome) (a : Answer) → a ≡ numbersOf (outcomeReply o)
+    → (outcomeReply o ≡ outcomeReply (permanentStateOf p i b)) × (s ≡ afterState o p i b)
     → (a ≡ numbersOf (outcomeReply (permanentStateOf p i b))) × (s ≡ afterState (permanentStateOf p i b) p i b)
 numbered p i b s o a e h = (e ∙ ap numbersOf (h .0), rw (outcome-told _ _ (h .0)) at (h .1))
 
 pub tsl-permanent-state-spec : {M : Type 1} → statement M
-tsl-permanent-state-spec = tie.close (tie.spec (λ c κs. search needs) (λ c κs. search needs) (λ c. search needs) (λ c. numbered _ _ _ _ _ _ (c .told .ensures) (c .before .before .before .permanent-state .ensures)))
+tsl-permanent-state-spec =
+    tie.close
+    (tie.spec (λ c κs. search needs) (λ c κs. search needs) (λ c. search needs)
+    (λ c. numbered _ _ _ _ _ _ (c .told .ensures) (c .before .before .before .permanent-state .ensures)))

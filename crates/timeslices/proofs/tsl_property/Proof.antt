@@ -16,7 +16,8 @@ told p t r a o e h = ap (partOf p t) (sym (ap placeReply e) ∙ h)
 numbered : (c : tie.After-locate) (a : Place) → c .locate .result ≡ a
     → let g = c .before .before .before .args in
     partOf (g .permanent .now) (g .temporary .now) (placeReply a)
-    ≡ partOf (g .permanent .now) (g .temporary .now) (placeReply (placeOf (g .permanent .now) (g .temporary .now) (instantOf (g .instant)) (g .property)))
+    ≡ partOf (g .permanent .now) (g .temporary .now)
+    (placeReply (placeOf (g .permanent .now) (g .temporary .now) (instantOf (g .instant)) (g .property)))
 numbered c a e = told _ _ _ a _ e (c .locate .ensures)
 
 pub tsl-property-spec : {M : Type 1} → statement M

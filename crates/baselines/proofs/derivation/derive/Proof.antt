@@ -1,4 +1,5 @@
--- `baselines::derivation::derive` meets its contract: the tests in their order, and then the records that were drawn. Assumes nothing.
+-- `baselines::derivation::derive` meets its contract: the tests in their order, and then the records that were drawn. Assumes
+-- nothing.
 use Prim.Native.Nat.{ℕ}
 use mathlib.Core.Path.{_≡_, refl, sym, ap, subst, _∙_}
 use mathlib.Core.Bool.{false}
@@ -34,7 +35,8 @@ sound c = sym (checked-told _ _ (c .before .before .check-table .ensures)) ∙ c
 abbrev checked : tie.After-draw-all → tie.After-enum-told
 checked c = c .before .before
 
-told : (c : tie.After-count) → let p = table (checked (c .before .before .before)) in drawnOf p ≡ Drawn.Records (c .count .given .0 .0)
+told : (c : tie.After-count)
+    → let p = table (checked (c .before .before .before)) in drawnOf p ≡ Drawn.Records (c .count .given .0 .0)
 told c = sym (c .before .before .before .draw-all .ensures .0) ∙ c .count .given .1
 
 -- no derived record fails the slice check
@@ -54,13 +56,17 @@ hand-over-requires c κs =
     let k = e .before .before in
     let d = k .before .before .before in
     let t = told-records _ _ (told k) in
-    let drew = subst (λ (r : Drawn). Drew r (table (checked d)) (d .draw-all .last .1 .0)) (k .count .given .1) (d .draw-all .ensures .1) in
+    let drew =
+    subst (λ (r : Drawn). Drew r (table (checked d)) (d .draw-all .last .1 .0)) (k .count .given .1) (d .draw-all .ensures .1) in
     (sound-table sides.Permanent _ (sound (checked d)) .headed, (e .if1 .left, (t .1, (search needs, drew (e .if1 .left)))))
 
 returns-3 : tie.Need-returns-3
 returns-3 c =
-    let d = c .before .before .before in
-    (ap derivationReply (two-refused _ _ (sound (checked d)) (told-two _ (sym (d .draw-all .ensures .0) ∙ c .enum-told2 .given .1))), refl)
+    let d = c .before .before .before in (
+      ap derivationReply
+          (two-refused _ _ (sound (checked d)) (told-two _ (sym (d .draw-all .ensures .0) ∙ c .enum-told2 .given .1))),
+      refl,
+    )
 
 returns-4 : tie.Need-returns-4
 returns-4 c =
@@ -68,8 +74,12 @@ returns-4 c =
     let e = h .before .before .before in
     let k = e .before .before in
     let d = checked (k .before .before .before) in
-    let t = told-records _ _ (told k) in
-    (ap derivationReply (h .hand-over .ensures .0 ∙ few-left _ _ (sound d) (t .0) (pass d) (omega (arith, t .1, e .if1 .left))), h .hand-over .ensures .1)
+    let t = told-records _ _ (told k) in (
+      ap derivationReply
+          (h .hand-over .ensures .0 ∙ few-left _ _ (sound d) (t .0) (pass d) (omega (arith, t .1, e .if1 .left))),
+      h .hand-over .ensures
+          .1,
+    )
 
 pub derive-spec : {M : Type 1} → statement M
 derive-spec =
@@ -77,7 +87,11 @@ derive-spec =
     (tie.spec
     (λ c κs. search needs)
     (λ c. search needs)
-    (λ c. (ap derivationReply (table-refused _ _ _ (sym (checked-told _ _ (c .before .before .before .check-table .ensures)) ∙ c .before .refusal .given .1)), refl))
+    (λ c. (
+      ap derivationReply
+          (table-refused _ _ _ (sym (checked-told _ _ (c .before .before .before .check-table .ensures)) ∙ c .before .refusal .given .1)),
+      refl,
+    ))
     (λ c. search needs)
     (λ c. search needs)
     (λ c κs. (sound (c .before), refl))

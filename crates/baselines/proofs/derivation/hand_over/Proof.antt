@@ -34,7 +34,8 @@ long s =
     ∙ length-take-le (s .args .count * 224) (s .args .drawn .now) (omega (arith, s .pre .1 .0, s .pre .1 .1 .1 .0))
 
 -- the records, as the part that is handed on
-part : (c : tie.After-record-size) → take (start c .args .count * c .record-size .result - 0) (start c .args .drawn .now) ≡ joined (records (start c))
+part : (c : tie.After-record-size)
+    → take (start c .args .count * c .record-size .result - 0) (start c .args .drawn .now) ≡ joined (records (start c))
 part c =
     let n : start c .args .count * c .record-size .result - 0 ≡ start c .args .count * 224 = omega (arith, sized c) in
     ap (λ (m : ℕ). take m (start c .args .drawn .now)) n ∙ start c .pre .1 .1 .1 .1
@@ -42,8 +43,11 @@ part c =
 returns : tie.Need-returns
 unfolding handedOf
 returns c =
-    let s = start (c .before) in
-    (sym (rw (lt-ltb (length (s .args .output .now)) (32 + length (joined (records s))) (omega (arith, long s, sized (c .before), c .if1 .taken)))), refl)
+    let s = start (c .before) in (
+      sym (rw (lt-ltb (length (s .args .output .now)) (32 + length (joined (records s)))
+          (omega (arith, long s, sized (c .before), c .if1 .taken)))),
+      refl,
+    )
 
 part-put-end : tie.Need-part-put-end
 part-put-end c =
@@ -65,8 +69,10 @@ returns-2 c =
       ap Derived n ∙ sym (rw (le-ltb (length (a .output .now)) (32 + length (joined (records s))) fits)),
       w .put .ensures
           ∙ (λ i. pasted (h .put-header .ensures i) 32 (part k i))
-          ∙ handed (a .output .now) (featureOf (a .permanent .now)) (joined (records s)) (a .count) (feature-long (a .permanent .now) (s .pre .0)) fits
-          ∙ ap (λ (m : ℕ). headerOf permanent (featureOf (a .permanent .now)) m ++ (joined (records s) ++ drop (32 + length (joined (records s))) (a .output .now))) n,
+          ∙ handed (a .output .now) (featureOf (a .permanent .now)) (joined (records s)) (a .count)
+          (feature-long (a .permanent .now) (s .pre .0)) fits
+          ∙ ap (λ (m : ℕ). headerOf permanent (featureOf (a .permanent .now)) m
+          ++ (joined (records s) ++ drop (32 + length (joined (records s))) (a .output .now))) n,
     )
 
 pub hand-over-spec : {M : Type 1} → statement M

@@ -14,7 +14,9 @@ returns c =
     let p1 = p2 .before .before .before .before in
     let s = p1 .before .before .before .before .before in
     let (roomy, long) = s .pre in
-    pasted-on _ _ _ 0 24 (pasted-on _ _ _ 0 8 (pasted-on _ _ _ 0 6 (p1 .put .ensures) (p2 .put16 .ensures) refl (omega arith)) (p3 .put2 .ensures) refl (omega arith)) (p4 .put3 .ensures) (omega arith) (omega arith)
+    pasted-on _ _ _ 0 24
+    (pasted-on _ _ _ 0 8 (pasted-on _ _ _ 0 6 (p1 .put .ensures) (p2 .put16 .ensures) refl (omega arith)) (p3 .put2 .ensures) refl
+    (omega arith)) (p4 .put3 .ensures) (omega arith) (omega arith)
 
 pub put-header-spec : {M : Type 1} → statement M
 put-header-spec =

@@ -1,4 +1,5 @@
--- `baselines::drawing::draw` meets its contract: where there is a state, its record with another front is that of the BASELINE. Assumes nothing.
+-- `baselines::drawing::draw` meets its contract: where there is a state, its record with another front is that of the BASELINE.
+-- Assumes nothing.
 use Prim.Native.Nat.{ℕ}
 use mathlib.Core.Path.{_≡_, sym, ap, _∙_}
 use mathlib.Core.List.{List, _∷_, _++_}
@@ -20,7 +21,9 @@ returns c =
     let f = c .before .before .told .given in
     let a = c .before .before .before .before .before .before .args in (
       λ v e shows. sym (ap (stepOf (a .stride) (a .sequence .0) (a .begin) (a .end)) (told-refused v _ (sym e ∙ f .1))),
-      λ v e shows. sym (ap (λ (w : Standing). afterStep (a .stride) (a .sequence .0) (a .begin) (a .end) w (a .«record» .now)) (told-refused v _ (sym e ∙ f .1))),
+      λ v e shows. sym
+          (ap (λ (w : Standing). afterStep (a .stride) (a .sequence .0) (a .begin) (a .end) w (a .«record» .now))
+          (told-refused v _ (sym e ∙ f .1))),
     )
 
 -- ---- there is a state
@@ -31,7 +34,8 @@ module _ (k : tie.After-put-front) where
   abbrev start : tie.Start
   start = put .before .before .before .before .before .before
 
-  module _ (v : Standing) (e : start .args .told ≡ outcomeOf v) (shows : Shows (start .args .stride) v (start .args .current .now)) where
+  module _ (v : Standing) (e : start .args .told ≡ outcomeOf v)
+      (shows : Shows (start .args .stride) v (start .args .current .now)) where
     state : (s : State) × (v ≡ known s)
     state = told-written v (sym e ∙ put .before .before .enum-told .given .1)
 
@@ -42,12 +46,16 @@ module _ (k : tie.After-put-front) where
     record-is =
         let a = start .args in
         k .put-front .ensures
-        ∙ ap (λ (d : List ℕ). pasted d 0 (1 ∷ 0 ∷ 0 ∷ 0 ∷ bytesOf 4 (a .sequence .0) ++ (bytesOf 4 (a .begin .0) ++ bytesOf 4 (a .end .0))))
+        ∙ ap (λ (d : List ℕ). pasted d 0
+        (1 ∷ 0 ∷ 0 ∷ 0 ∷ bytesOf 4 (a .sequence .0) ++ (bytesOf 4 (a .begin .0) ++ bytesOf 4 (a .end .0))))
         (put .put .ensures ∙ pasted-all (a .«record» .now) (a .current .now) (start .pre .0 ∙ sym (start .pre .1)))
         ∙ carried-drawn (a .stride) (state .0) (a .current .now) (shows (state .0) (state .1)) (a .sequence .0) (a .begin) (a .end)
 
-    after-is : k .put-front .last .0 ≡ afterStep (start .args .stride) (start .args .sequence .0) (start .args .begin) (start .args .end) v (start .args .«record» .now)
-    after-is = let a = start .args in record-is ∙ sym (ap (λ (w : Standing). afterStep (a .stride) (a .sequence .0) (a .begin) (a .end) w (a .«record» .now)) (state .1))
+    after-is : k .put-front .last .0 ≡ afterStep (start .args .stride) (start .args .sequence .0) (start .args .begin)
+        (start .args .end) v (start .args .«record» .now)
+    after-is = let a = start .args in
+        record-is
+        ∙ sym (ap (λ (w : Standing). afterStep (a .stride) (a .sequence .0) (a .begin) (a .end) w (a .«record» .now)) (state .1))
 
 returns-2 : tie.Need-returns-2
 returns-2 c =

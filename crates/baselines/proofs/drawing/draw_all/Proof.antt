@@ -7,7 +7,10 @@ use Rattle.baselines.proofs.drawing.draw_all.Statement.{statement}
 use Rattle.baselines.proofs.drawing.draw_all.Tie as tie
 
 front-of-requires : tie.Need-front-of-requires
-front-of-requires c κs = sound-order Permanent _ (sound-table Permanent _ (c .before .before .before .before .before .before .before .before .before .before .before .before .pre .0))
+front-of-requires c κs =
+    sound-order Permanent _
+    (sound-table Permanent _
+    (c .before .before .before .before .before .before .before .before .before .before .before .before .pre .0))
 
 walk-requires : tie.Need-walk-requires
 walk-requires c κs =
@@ -16,8 +19,13 @@ walk-requires c κs =
     let e = g .before in
     let b = e .before in
     let n = b .before in
-    let s = n .before .before .before .before .before .before in
-    (s .pre .0, (n .note .ensures, (f .front-of .ensures .0, (f .front-of .ensures .1, (b .begins2 .given, (e .ends2 .given, (g .gones2 .given, s .pre .1)))))))
+    let s = n .before .before .before .before .before .before in (
+      s .pre .0,
+      (
+        n .note .ensures,
+        (f .front-of .ensures .0, (f .front-of .ensures .1, (b .begins2 .given, (e .ends2 .given, (g .gones2 .given, s .pre .1))))),
+      ),
+    )
 
 pub draw-all-spec : {M : Type 1} → statement M
 draw-all-spec =

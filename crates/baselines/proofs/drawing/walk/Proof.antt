@@ -1,4 +1,5 @@
--- `baselines::drawing::walk` meets its contract. The loop: the walk has come to this change instant, the records so far are drawn, and the current record is what is left of the change instant before. Assumes nothing.
+-- `baselines::drawing::walk` meets its contract. The loop: the walk has come to this change instant, the records so far are drawn,
+-- and the current record is what is left of the change instant before. Assumes nothing.
 use Prim.Native.Nat.{ℕ, _+_, _*_, _-_, _≤_, min}
 use mathlib.Core.Path.{_≡_, refl, sym, ap, subst, _∙_}
 use mathlib.Core.List.{List}
@@ -26,7 +27,8 @@ use Rattle.baselines.specs.Steps.{drawnOf, stepOf, afterStep}
 use Rattle.baselines.proofs.Changes.{slices-bounded}
 use Rattle.baselines.proofs.Noted.{held-told}
 use Rattle.baselines.proofs.Standings.{step-two, step-most, step-left}
-use Rattle.baselines.proofs.Walked.{Walked, walked-none, before-first, before-next, two-here, next-most, falls, turned, walked-all}
+use Rattle.baselines.proofs.Walked.{Walked, walked-none, before-first, before-next, two-here, next-most, falls, turned}
+use Rattle.baselines.proofs.Walked.{walked-all}
 use borrow.Author.Needs.{needs}
 use Rattle.baselines.proofs.drawing.walk.Statement.{statement}
 use Rattle.baselines.proofs.drawing.walk.Tie as tie
@@ -36,7 +38,8 @@ Inv-loop permanent begins ends gones front drawn₀ stride size current₀ past�
     Walked permanent drawn begin count × ((length current ≡ 224) × Before permanent begin (past .had) (past .free) current)
 
 abbrev μ-loop : tie.MeasureT-loop
-μ-loop permanent begins ends gones front drawn₀ stride size current₀ past₀ begin₀ count₀ drawn current past begin count = noInstant - begin .0
+μ-loop permanent begins ends gones front drawn₀ stride size current₀ past₀ begin₀ count₀ drawn current past begin count =
+    noInstant - begin .0
 
 abbrev start : tie.After-stride-of Inv-loop μ-loop → tie.Start Inv-loop μ-loop
 start c = c .before .before .before .before .before .before
@@ -53,7 +56,8 @@ Told c =
     let a = start c .args in
     (checkTable Permanent (table c) ≡ Sound)
     × (Noted (table c) (a .begins .now) (a .ends .now) (a .gones .now)
-    × (Fronted (table c) (a .front .end) × ((length (a .begins .now) ≡ 256) × ((length (a .ends .now) ≡ 256) × (length (a .gones .now) ≡ 256)))))
+    × (Fronted (table c) (a .front .end)
+    × ((length (a .begins .now) ≡ 256) × ((length (a .ends .now) ≡ 256) × (length (a .gones .now) ≡ 256)))))
 
 told : (c : tie.After-stride-of Inv-loop μ-loop) → Told c
 told c = let q = start c .pre in (q .0, (q .1 .0, (q .1 .1 .0, (q .1 .1 .1 .1 .0, (q .1 .1 .1 .1 .1 .0, q .1 .1 .1 .1 .1 .1 .0)))))
@@ -67,11 +71,17 @@ loop-holds c =
     let s = q .before in
     let r : List ℕ = replicate 224 0 in (
       walked-none (table s) (low s) _ _ (whole s) (c .change-since .ensures),
-      (refl, subst (λ (b : Bool). Before (table s) (c .change-since .result) b (q .past-of .result .free) r) (sym (q .past-of .ensures .0)) (before-first (table s) _ (q .past-of .result .free) r (c .change-since .ensures))),
+      (
+        refl,
+        subst (λ (b : Bool). Before (table s) (c .change-since .result) b (q .past-of .result .free) r)
+            (sym (q .past-of .ensures .0)) (before-first (table s) _ (q .past-of .result .free) r (c .change-since .ensures)),
+      ),
     )
 
 -- a turn
-abbrev walked : (c : tie.After-struct-known Inv-loop μ-loop) → let l = c .before .before .before .loop in let s = c .before .before .before .before .before .before in Walked (table s) (l .drawn) (l .begin) (l .count)
+abbrev walked : (c : tie.After-struct-known Inv-loop μ-loop)
+    → let l = c .before .before .before .loop in let s = c .before .before .before .before .before .before in
+    Walked (table s) (l .drawn) (l .begin) (l .count)
 walked c = c .before .before .before .loop .inv .0
 
 going : (c : tie.After-struct-known Inv-loop μ-loop) → isNone (c .before .before .before .loop .begin) ≡ false
@@ -107,7 +117,14 @@ fits : (k : tie.After-place-in Inv-loop μ-loop) → k .place-in .result + 224 �
 fits k = omega (arith, place k, walked (turning k) .sized)
 
 few-front : (c : tie.After-stride-of Inv-loop μ-loop) → start c .args .front .end ≤ 256
-few-front c = omega (arith, sound-table Permanent (table c) (told c .0) .roomy, room-most (recordSize (strideOf (table c))) (table c), told c .1 .1 .0 .most)
+few-front c =
+    omega (
+      arith,
+      sound-table Permanent (table c) (told c .0) .roomy,
+      room-most (recordSize (strideOf (table c)))
+          (table c),
+      told c .1 .1 .0 .most,
+    )
 
 hold-requires : tie.Need-hold-requires Inv-loop μ-loop
 hold-requires c κs =
@@ -116,14 +133,16 @@ hold-requires c κs =
     (omega (arith, few-front s, q .1 .1 .1 .0), (omega (arith, few-front s, q .1 .1 .1 .1 .0), few-front s))
 
 -- the BASELINEs that hold
-holding : (h : tie.After-hold Inv-loop μ-loop) → let t = h .before .before in Held (table (first t)) (looped t .loop .begin) (h .hold .result .count) (h .hold .result .place)
+holding : (h : tie.After-hold Inv-loop μ-loop)
+    → let t = h .before .before in Held (table (first t)) (looped t .loop .begin) (h .hold .result .count) (h .hold .result .place)
 unfolding noInstant
 holding h =
     let t = h .before .before in
     let s = first t in
     let q = told s in
     let a = start s .args in
-    held-told (table s) (a .begins .now) (a .ends .now) (a .gones .now) (a .front .end) (q .0) (q .1 .0) (q .1 .1 .0) (looped t .loop .begin) (omega (arith, next t)) _ _ (h .hold .ensures)
+    held-told (table s) (a .begins .now) (a .ends .now) (a .gones .now) (a .front .end) (q .0) (q .1 .0) (q .1 .1 .0)
+    (looped t .loop .begin) (omega (arith, next t)) _ _ (h .hold .ensures)
 
 go-on-requires : tie.Need-go-on-requires Inv-loop μ-loop
 go-on-requires c κs =
@@ -131,8 +150,16 @@ go-on-requires c κs =
     let t = h .before .before in
     let s = first t in
     let q = told s in
-    let a = start s .args in
-    (q .0, ((a .ends .now, a .gones .now, q .1 .0), (q .1 .1 .0, (start s .pre .1 .1 .1 .0, (holding h, (q .1 .1 .1 .0, (going t, (looped t .loop .inv .1 .0, looped t .loop .inv .1 .1))))))))
+    let a = start s .args in (
+      q .0,
+      (
+        (a .ends .now, a .gones .now, q .1 .0),
+        (
+          q .1 .1 .0,
+          (start s .pre .1 .1 .1 .0, (holding h, (q .1 .1 .1 .0, (going t, (looped t .loop .inv .1 .0, looped t .loop .inv .1 .1))))),
+        ),
+      ),
+    )
 
 -- the current record stays as long as it was
 kept-long : (k : tie.After-place-in Inv-loop μ-loop) → length (k .before .before .go-on .last .0) ≡ 224
@@ -142,8 +169,12 @@ draw-requires : tie.Need-draw-requires Inv-loop μ-loop
 draw-requires c κs =
     let k = c .before .before in
     let s = first (turning k) in
-    let n : width k ≡ 224 = omega (arith, sized s) in
-    (ap (λ (m : ℕ). length (take m (drop (k .place-in .result) (looped (turning k) .loop .drawn)))) n ∙ length-take-le 224 (drop (k .place-in .result) (looped (turning k) .loop .drawn)) (simp length-drop (omega (arith, fits k))) ∙ sym (sized s), kept-long k ∙ sym (sized s))
+    let n : width k ≡ 224 = omega (arith, sized s) in (
+      ap (λ (m : ℕ). length (take m (drop (k .place-in .result) (looped (turning k) .loop .drawn)))) n
+          ∙ length-take-le 224 (drop (k .place-in .result) (looped (turning k) .loop .drawn)) (simp length-drop (omega (arith, fits k)))
+          ∙ sym (sized s),
+      kept-long k ∙ sym (sized s),
+    )
 
 -- what the change instant gave
 abbrev turn : tie.After-slice-known2 Inv-loop μ-loop → tie.After-place-in Inv-loop μ-loop
@@ -178,17 +209,23 @@ module _ (b : tie.After-slice-known2 Inv-loop μ-loop) where
   step-is : drew .draw .result ≡ stepOf (strideOf (table (first here))) sequence begin end standing
   step-is =
       let told = turn b .before .before .go-on .ensures .0 in
-      subst (λ (m : ℕ). Shows m standing current → drew .draw .result ≡ stepOf m sequence begin end standing) (first here .stride-of .ensures) (drew .draw .ensures .0 standing told) shows
+      subst (λ (m : ℕ). Shows m standing current → drew .draw .result ≡ stepOf m sequence begin end standing)
+      (first here .stride-of .ensures) (drew .draw .ensures .0 standing told) shows
 
-  last-is : drew .draw .last .0 ≡ afterStep (strideOf (table (first here))) sequence begin end standing (midOf (turn b .place-in .result) (width (turn b)) (looped here .loop .drawn))
+  last-is : drew .draw .last .0 ≡ afterStep (strideOf (table (first here))) sequence begin end standing
+      (midOf (turn b .place-in .result) (width (turn b)) (looped here .loop .drawn))
   last-is =
       let told = turn b .before .before .go-on .ensures .0 in
-      subst (λ (m : ℕ). Shows m standing current → drew .draw .last .0 ≡ afterStep m sequence begin end standing (midOf (turn b .place-in .result) (width (turn b)) (looped here .loop .drawn))) (first here .stride-of .ensures) (drew .draw .ensures .1 standing told) shows
+      subst (λ (m : ℕ). Shows m standing current
+      → drew .draw .last .0 ≡ afterStep m sequence begin end standing
+      (midOf (turn b .place-in .result) (width (turn b)) (looped here .loop .drawn))) (first here .stride-of .ensures)
+      (drew .draw .ensures .1 standing told) shows
 
 same-length : tie.Need-same-length Inv-loop μ-loop
 same-length c =
     let b = c .before in
-    same-len-mid (turn b .place-in .result) (width (turn b)) (looped (here b) .loop .drawn) (drew b .draw .last .0) (b .before .drawn .given .0) ∙ walked (here b) .sized ∙ sym (whole (first (here b)))
+    same-len-mid (turn b .place-in .result) (width (turn b)) (looped (here b) .loop .drawn) (drew b .draw .last .0)
+    (b .before .drawn .given .0) ∙ walked (here b) .sized ∙ sym (whole (first (here b)))
 
 returns : tie.Need-returns Inv-loop μ-loop
 unfolding drawnOf
@@ -209,7 +246,12 @@ loop-less c =
     let b = c .before .before .before in
     let t = here b in
     let e = turn b .before .before .before .before .before .change-since2 .ensures in
-    omega (arith, falls (table (first t)) (low (first t)) _ _ _ (walked t) (going t) _ e, next-most (table (first t)) (low (first t)) _ _ _ (walked t) (going t))
+    omega (
+      arith,
+      falls (table (first t)) (low (first t)) _ _ _ (walked t) (going t) _ e,
+      next-most (table (first t))
+          (low (first t)) _ _ _ (walked t) (going t),
+    )
 
 loop-again : tie.Need-loop-again Inv-loop μ-loop
 loop-again c =
@@ -222,11 +264,13 @@ loop-again c =
     let m : width k ≡ 224 = omega (arith, sized s) in
     let e = k .before .before .before .before .before .change-since2 .ensures in
     let d = drew b .draw in (
-      turned (table s) (low s) _ _ _ (walked t) (going t) _ e _ _ (d .last .0) (d .result) (place k) m (b .before .drawn .given .0) (standing b) refl (step-is b) (last-is b) (n .if2 .left),
+      turned (table s) (low s) _ _ _ (walked t) (going t) _ e _ _ (d .last .0) (d .result) (place k) m (b .before .drawn .given .0)
+          (standing b) refl (step-is b) (last-is b) (n .if2 .left),
       (
         kept-long k,
         before-next (table s) (begin b) (end b) _ _ (current b) e (falls (table s) (low s) _ _ _ (walked t) (going t) _ e)
-            (subst (λ (x : Bool). Left x (strideOf (table s)) (standing b) (current b)) (sym (o .past-of2 .ensures .0)) (step-left _ _ _ _ (standing b) (current b) (step-is b) (n .if2 .left) (shows b)))
+            (subst (λ (x : Bool). Left x (strideOf (table s)) (standing b) (current b)) (sym (o .past-of2 .ensures .0))
+            (step-left _ _ _ _ (standing b) (current b) (step-is b) (n .if2 .left) (shows b)))
             (λ f. holding (k .before .before .before .before) .none (eqb-true _ _ (sym (o .past-of2 .ensures .1) ∙ f))),
       ),
     )
@@ -234,7 +278,8 @@ loop-again c =
 returns-2 : tie.Need-returns-2 Inv-loop μ-loop
 returns-2 c =
     let l = c .before .before in
-    walked-all (table (l .before .before .before)) _ _ _ (l .loop .inv .0) (sym (c .before .is-none .ensures) ∙ not-false _ (c .if1 .left))
+    walked-all (table (l .before .before .before)) _ _ _ (l .loop .inv .0)
+    (sym (c .before .is-none .ensures) ∙ not-false _ (c .if1 .left))
 
 pub walk-spec : {M : Type 1} → statement M
 walk-spec =

@@ -32,9 +32,13 @@ returns c =
     λ s h.
     carried-ended (a .stride) _ _
     (carried-born (a .stride) _ _ (m .put-mentions .ensures s h) (lifeOf delta .begin) born _
-    (b .put-time .ensures ∙ ap (λ (l : Life). cond (isNone (l .begin)) (m .put-mentions .last .0) (pasted (m .put-mentions .last .0) 16 (bytesOf 4 (l .begin .0)))) (life .life-of .ensures)))
+    (b .put-time .ensures
+    ∙ ap (λ (l : Life). cond (isNone (l .begin)) (m .put-mentions .last .0)
+    (pasted (m .put-mentions .last .0) 16 (bytesOf 4 (l .begin .0)))) (life .life-of .ensures)))
     (lifeOf delta .end) gone _
-    (e .put-time2 .ensures ∙ ap (λ (l : Life). cond (isNone (l .end)) (b .put-time .last .0) (pasted (b .put-time .last .0) 20 (bytesOf 4 (l .end .0)))) (life .life-of .ensures))
+    (e .put-time2 .ensures
+    ∙ ap (λ (l : Life). cond (isNone (l .end)) (b .put-time .last .0) (pasted (b .put-time .last .0) 20 (bytesOf 4 (l .end .0))))
+    (life .life-of .ensures))
 
 pub apply-spec : {M : Type 1} → statement M
 apply-spec =

@@ -1,4 +1,5 @@
--- `baselines::onward::apply_at` meets its contract. The loop: the record says a state from which the PERMDELTAs that are left lead where all lead. Assumes nothing.
+-- `baselines::onward::apply_at` meets its contract. The loop: the record says a state from which the PERMDELTAs that are left lead
+-- where all lead. Assumes nothing.
 use Prim.Native.Nat.{ℕ, _-_, _≤_, _<_}
 use mathlib.Core.Path.{_≡_, refl, sym, ap, subst, _∙_}
 use mathlib.Core.List.{List}
@@ -31,7 +32,8 @@ Leads p t i end r = (u : State) × Carries (strideOf p) u r × (appliedAll u (ke
 abbrev Inv-loop : tie.InvT-loop
 Inv-loop record₀ permanent begins front instant stride count i₀ «record» i =
     (front ≤ i) × ((i ≤ count) × ((length «record» ≡ length record₀)
-    × ((s : State) → Carries (strideOf permanent) s record₀ → Leads permanent instant i (appliedAll s (kept (changesAt instant) (slicesOf permanent))) «record»)))
+    × ((s : State) → Carries (strideOf permanent) s record₀
+    → Leads permanent instant i (appliedAll s (kept (changesAt instant) (slicesOf permanent))) «record»)))
 
 abbrev μ-loop : tie.MeasureT-loop
 μ-loop record₀ permanent begins front instant stride count i₀ «record» i = count - i
@@ -50,8 +52,21 @@ loop-holds c =
     let s = c .before .before .before .before .before in
     let a = s .args in
     let (ends, gones, noted) = s .pre .1 .0 in
-    let fronted = s .pre .1 .1 .0 in
-    (omega arith, (omega (arith, fronted .most), (refl, λ u h. (u, h, ap (appliedAll u) (sym (front-still (a .permanent .now) (a .begins .now) ends gones (a .front) (s .pre .0) noted fronted (a .instant)))))))
+    let fronted = s .pre .1 .1 .0 in (
+      omega arith,
+      (
+        omega (arith, fronted .most),
+        (
+          refl,
+          λ u h. (
+            u,
+            h,
+            ap (appliedAll u)
+                (sym (front-still (a .permanent .now) (a .begins .now) ends gones (a .front) (s .pre .0) noted fronted (a .instant))),
+          ),
+        ),
+      ),
+    )
 
 -- the record that stands there
 module _ (k : tie.In-loop Inv-loop μ-loop) where
@@ -63,19 +78,27 @@ module _ (k : tie.In-loop Inv-loop μ-loop) where
 
 absent : (c : tie.After-struct-known Inv-loop μ-loop) → start (c .before .before .before) .args .instant .0 < noInstant
 unfolding noInstant
-absent c = let n = none-false (start (c .before .before .before) .args .instant) (start (c .before .before .before) .pre .1 .1 .1 .1 .0) in omega (arith, n, c .struct-known .given)
+absent c = let n =
+    none-false (start (c .before .before .before) .args .instant) (start (c .before .before .before) .pre .1 .1 .1 .1 .0) in
+    omega (arith, n, c .struct-known .given)
 
 -- the record is read by the size that the table told
-read : (c : tie.After-record-at Inv-loop μ-loop) → let l = c .before .before .before .before .before .before .before in Read (table l) (l .loop .i) (l .before .before .stride-of .result) (c .record-at .result .now)
+read : (c : tie.After-record-at Inv-loop μ-loop)
+    → let l = c .before .before .before .before .before .before .before in
+    Read (table l) (l .loop .i) (l .before .before .stride-of .result) (c .record-at .result .now)
 read c =
     let k = c .before .before .before .before .before .before in
     let l = k .before in
-    read-here (table l) (l .loop .i) (c .before .record-size .ensures) (c .record-at .ensures .0) (l .before .before .stride-of .ensures) (roomy l) (inside k)
+    read-here (table l) (l .loop .i) (c .before .record-size .ensures) (c .record-at .ensures .0)
+    (l .before .before .stride-of .ensures) (roomy l) (inside k)
 
 apply-requires : tie.Need-apply-requires Inv-loop μ-loop
 apply-requires c κs =
-    let l = c .before .before .before .before .before .before .before in
-    (read c .sized, l .loop .inv .1 .1 .0 ∙ start l .pre .1 .1 .1 .1 .1 ∙ sym (ap recordSize (l .before .before .stride-of .ensures)))
+    let l = c .before .before .before .before .before .before .before in (
+      read c .sized,
+      l .loop .inv .1 .1 .0 ∙ start l .pre .1 .1 .1 .1 .1
+          ∙ sym (ap recordSize (l .before .before .stride-of .ensures)),
+    )
 
 loop-again : tie.Need-loop-again Inv-loop μ-loop
 loop-again c =
@@ -97,10 +120,18 @@ loop-again c =
         (
           ap length e ∙ v .given ∙ l .loop .inv .1 .1 .0,
           λ t h. let (x, q, f) = l .loop .inv .1 .1 .1 t h in
-              let turns : Turns (strideOf p) (λ z. applied z (viewOf (strideOf p) (recordAt (recordSize (strideOf p)) i p))) (l .loop .«record») (u .last .0) =
-              subst (λ (d : List ℕ). Turns (strideOf p) (λ z. applied z (viewOf (strideOf p) d)) (l .loop .«record») (u .last .0)) (read-by p i (z .ensures) (r .ensures .0))
-              (subst (λ (m : ℕ). Turns m (λ z. applied z (viewOf m (r .result .now))) (l .loop .«record») (u .last .0)) (l .before .before .stride-of .ensures) (u .ensures)) in
-              (applied x (viewOf (strideOf p) (recordAt (recordSize (strideOf p)) i p)), rw e (turns x q), sym (next-applied p (a .begins .now) ends gones (a .front) (s .pre .0) noted fronted (a .instant) late i (l .loop .inv .0) (inside k) x (y .taken)) ∙ f),
+              let turns : Turns (strideOf p) (λ z. applied z (viewOf (strideOf p) (recordAt (recordSize (strideOf p)) i p)))
+              (l .loop .«record») (u .last .0) =
+              subst (λ (d : List ℕ). Turns (strideOf p) (λ z. applied z (viewOf (strideOf p) d)) (l .loop .«record») (u .last .0))
+              (read-by p i (z .ensures) (r .ensures .0))
+              (subst (λ (m : ℕ). Turns m (λ z. applied z (viewOf m (r .result .now))) (l .loop .«record») (u .last .0))
+              (l .before .before .stride-of .ensures) (u .ensures)) in (
+                applied x (viewOf (strideOf p) (recordAt (recordSize (strideOf p)) i p)),
+                rw e (turns x q),
+                sym
+                    (next-applied p (a .begins .now) ends gones (a .front) (s .pre .0) noted fronted (a .instant) late i (l .loop .inv .0)
+                    (inside k) x (y .taken)) ∙ f,
+              ),
         ),
       ),
     ))
@@ -110,7 +141,13 @@ loop-again c =
         omega arith,
         (
           ap length e ∙ l .loop .inv .1 .1 .0,
-          λ t h. let (x, q, f) = l .loop .inv .1 .1 .1 t h in (x, rw e q, ap (appliedAll x) (sym (next-passed p (a .begins .now) ends gones (a .front) (s .pre .0) noted fronted (a .instant) late i (l .loop .inv .0) (inside k) (y .left))) ∙ f),
+          λ t h. let (x, q, f) = l .loop .inv .1 .1 .1 t h in (
+            x,
+            rw e q,
+            ap (appliedAll x)
+                (sym (next-passed p (a .begins .now) ends gones (a .front) (s .pre .0) noted fronted (a .instant) late i (l .loop .inv .0)
+                (inside k) (y .left))) ∙ f,
+          ),
         ),
       ),
     ))
@@ -122,7 +159,8 @@ returns c =
     let p = table l in
     let t = start l .args .instant in
     λ s h. let (u, q, e) = l .loop .inv .1 .1 .1 s h in
-    subst (λ (v : State). Carries (strideOf p) v (l .loop .«record»)) (ap (λ (d : List Slice). appliedAll u (kept (changesAt t) d)) (sym (slices-end p (l .loop .i) (omega arith))) ∙ e) q
+    subst (λ (v : State). Carries (strideOf p) v (l .loop .«record»))
+    (ap (λ (d : List Slice). appliedAll u (kept (changesAt t) d)) (sym (slices-end p (l .loop .i) (omega arith))) ∙ e) q
 
 pub apply-at-spec : {M : Type 1} → statement M
 apply-at-spec =

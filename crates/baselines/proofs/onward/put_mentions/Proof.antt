@@ -1,4 +1,5 @@
--- `baselines::onward::put_mentions` meets its contract. The loop: of the state that the record said, the first properties are replaced where they are mentioned. Assumes nothing.
+-- `baselines::onward::put_mentions` meets its contract. The loop: of the state that the record said, the first properties are
+-- replaced where they are mentioned. Assumes nothing.
 use Prim.Native.Nat.{ℕ, suc, _+_, _*_, _-_, _≤_}
 use mathlib.Core.Path.{_≡_, refl, sym, ap, subst, _∙_}
 use mathlib.Core.Logic.{⊎-elim}
@@ -18,7 +19,8 @@ use Rattle.baselines.proofs.onward.put_mentions.Tie as tie
 
 abbrev Inv-loop : tie.InvT-loop
 Inv-loop record₀ delta stride n₀ «record» n =
-    (n ≤ 8) × ((length «record» ≡ length record₀) × ((s : State) → Carries stride s record₀ → Carries stride (partly stride n s (viewOf stride delta)) «record»))
+    (n ≤ 8) × ((length «record» ≡ length record₀)
+    × ((s : State) → Carries stride s record₀ → Carries stride (partly stride n s (viewOf stride delta)) «record»))
 
 abbrev μ-loop : tie.MeasureT-loop
 μ-loop record₀ delta stride n₀ «record» n = 8 - n
@@ -27,8 +29,10 @@ abbrev start : tie.At-loop Inv-loop μ-loop → tie.Start Inv-loop μ-loop
 start l = l .before .before .before
 
 -- property n lies within the record
-within : (k : tie.In-loop Inv-loop μ-loop) → let s = start (k .before) in 32 + k .before .loop .n * s .args .stride + s .args .stride ≤ length (s .args .delta .now)
-within k = let s = start (k .before) in omega (arith, piece-within (s .args .stride) (k .before .loop .n) 8 (k .loop-test .taken), s .pre .0)
+within : (k : tie.In-loop Inv-loop μ-loop)
+    → let s = start (k .before) in 32 + k .before .loop .n * s .args .stride + s .args .stride ≤ length (s .args .delta .now)
+within k = let s = start (k .before) in
+    omega (arith, piece-within (s .args .stride) (k .before .loop .n) 8 (k .loop-test .taken), s .pre .0)
 
 loop-again : tie.Need-loop-again Inv-loop μ-loop
 loop-again c =
@@ -43,19 +47,24 @@ loop-again c =
     let at = 32 + n * stride in
     let width : at + stride - at ≡ stride = omega arith in
     ⊎-elim
-    (λ (i, a, a′, u, v, w, e). let q = e ∙ u .ensures ∙ ap (λ (m : ℕ). pasted (l .loop .«record») at (take m (drop at delta))) width in (
+    (λ (i, a, a′, u, v, w, e). let q =
+    e ∙ u .ensures ∙ ap (λ (m : ℕ). pasted (l .loop .«record») at (take m (drop at delta))) width in (
       omega arith,
       (
         ap length q ∙ pasted-length (l .loop .«record») (take stride (drop at delta)) at ∙ l .loop .inv .1 .0,
-        λ t h. rw more (carry-put stride n t (viewOf stride delta) (l .loop .«record») (l .loop .inv .1 .1 t h) (propertyAt stride delta n)
-            (view-says stride delta n (k .loop-test .taken) (s .pre .0) (λ z. i .taken (b .byte .ensures ∙ z))) (k .loop-test .taken) (view-sized stride delta (s .pre .0)) (h .sized) (h .eight) _ q),
+        λ t h. rw more
+            (carry-put stride n t (viewOf stride delta) (l .loop .«record») (l .loop .inv .1 .1 t h) (propertyAt stride delta n)
+            (view-says stride delta n (k .loop-test .taken) (s .pre .0) (λ z. i .taken (b .byte .ensures ∙ z)))
+            (k .loop-test .taken) (view-sized stride delta (s .pre .0)) (h .sized) (h .eight) _ q),
       ),
     ))
     (λ (i, e). (
       omega arith,
       (
         ap length e ∙ l .loop .inv .1 .0,
-        λ t h. rw (more, e) (carry-skip stride n t (viewOf stride delta) (l .loop .«record») (l .loop .inv .1 .1 t h) (view-skips stride delta n (k .loop-test .taken) (s .pre .0) (sym (b .byte .ensures) ∙ i .left))),
+        λ t h. rw (more, e)
+            (carry-skip stride n t (viewOf stride delta) (l .loop .«record») (l .loop .inv .1 .1 t h)
+            (view-skips stride delta n (k .loop-test .taken) (s .pre .0) (sym (b .byte .ensures) ∙ i .left))),
       ),
     ))
     (c .if1 .came)
@@ -67,7 +76,8 @@ returns c =
     let stride = s .args .stride in
     let d = viewOf stride (s .args .delta .now) in
     let e : l .loop .n ≡ 8 = omega arith in
-    λ t h. subst (λ (u : State). Carries stride u (l .loop .«record»)) (partly-all stride t d (view-eight stride (s .args .delta .now)) (h .eight))
+    λ t h. subst (λ (u : State). Carries stride u (l .loop .«record»))
+    (partly-all stride t d (view-eight stride (s .args .delta .now)) (h .eight))
     (subst (λ (m : ℕ). Carries stride (partly stride m t d) (l .loop .«record»)) e (l .loop .inv .1 .1 t h))
 
 pub put-mentions-spec : {M : Type 1} → statement M

@@ -1,4 +1,5 @@
--- `baselines::times::hold` meets its contract. The loop: so many of the places so far pass, and where it is one alone it is this. Assumes nothing.
+-- `baselines::times::hold` meets its contract. The loop: so many of the places so far pass, and where it is one alone it is this.
+-- Assumes nothing.
 use Prim.Native.Nat.{ℕ, _+_, _*_, _-_, _≤_}
 use mathlib.Core.Path.{_≡_, subst}
 use mathlib.Core.Bool.{Bool, false}
@@ -35,16 +36,21 @@ loop-again c =
     let test : ℕ → Bool = lies (s .args .begins .now) (s .args .ends .now) (s .args .instant) in
     let Next : ℕ → ℕ → Type 0 = λ m n. HeldBy test (l .loop .i + 1) (l .loop .count + m) (l .loop .place + n) in
     let z : (m : ℕ) → m + 0 ≡ m = add-zero in
-    let past : test (l .loop .i) ≡ false → Next 0 0 = λ q. rw (z (l .loop .count), z (l .loop .place)) (held-past test (l .loop .i) (l .loop .count) (l .loop .place) h q) in
-    let on : (m n : ℕ) → k .if1 .count ≡ m → j .if2 .place ≡ n → Next m n → Next (k .if1 .count) (j .if2 .place) = λ m n p q w. rw (p, q) w in (
+    let past : test (l .loop .i) ≡ false → Next 0 0 =
+    λ q. rw (z (l .loop .count), z (l .loop .place)) (held-past test (l .loop .i) (l .loop .count) (l .loop .place) h q) in
+    let on : (m n : ℕ) → k .if1 .count ≡ m → j .if2 .place ≡ n → Next m n → Next (k .if1 .count) (j .if2 .place) =
+    λ m n p q w. rw (p, q) w in (
       omega arith,
       (
         omega (arith, ones k),
         (
           omega (arith, places j),
           ⊎-elim
-              (λ x. ⊎-elim (λ y. on 1 (l .loop .i) (x .1) (y .1) (held-more test (l .loop .i) (l .loop .count) (l .loop .place) h (x .0 .taken))) (λ y. contrary (x .0 .taken) (y .0 .left)) (j .if2 .came))
-              (λ x. ⊎-elim (λ y. contrary (y .0 .taken) (x .0 .left)) (λ y. on 0 0 (x .1) (y .1) (past (x .0 .left))) (j .if2 .came))
+              (λ x. ⊎-elim
+              (λ y. on 1 (l .loop .i) (x .1) (y .1) (held-more test (l .loop .i) (l .loop .count) (l .loop .place) h (x .0 .taken)))
+              (λ y. contrary (x .0 .taken) (y .0 .left)) (j .if2 .came))
+              (λ x. ⊎-elim (λ y. contrary (y .0 .taken) (x .0 .left)) (λ y. on 0 0 (x .1) (y .1) (past (x .0 .left)))
+              (j .if2 .came))
               (k .if1 .came),
         ),
       ),
@@ -55,7 +61,8 @@ returns c =
     let l = c .before in
     let s = l .before in
     let e : l .loop .i ≡ s .args .front = omega arith in
-    subst (λ (n : ℕ). HeldBy (lies (s .args .begins .now) (s .args .ends .now) (s .args .instant)) n (l .loop .count) (l .loop .place)) e (l .loop .inv .1 .1 .1)
+    subst (λ (n : ℕ). HeldBy (lies (s .args .begins .now) (s .args .ends .now) (s .args .instant)) n (l .loop .count)
+    (l .loop .place)) e (l .loop .inv .1 .1 .1)
 
 pub hold-spec : {M : Type 1} → statement M
 hold-spec =

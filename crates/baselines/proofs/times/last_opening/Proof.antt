@@ -33,7 +33,8 @@ module _ (p : List ℕ) (front i last : ℕ) (here : front ≤ i) (so-far : Last
 
   opening-more : isNone (lifeOf r .begin) ≡ false → LastOpening p front (i + 1) (max last (periodOf r .begin .0))
   opening-more g = record {
-    one = by-test (ltb last (periodOf r .begin .0)) (λ y. inr (i, here, omega tests, (g, omega tests))) (λ n. earlier _ (omega tests));
+    one = by-test (ltb last (periodOf r .begin .0)) (λ y. inr (i, here, omega tests, (g, omega tests)))
+        (λ n. earlier _ (omega tests));
     most = λ j time l h. upto {P = λ j. front ≤ j → OpensAt p j time → time ≤ max last (periodOf r .begin .0)}
         (λ j h l o. omega (tests, so-far .most j time l h o)) (λ l o. omega (tests, o .1)) j h l;
   }
@@ -41,7 +42,8 @@ module _ (p : List ℕ) (front i last : ℕ) (here : front ≤ i) (so-far : Last
   opening-past : isNone (lifeOf r .begin) ≡ true → LastOpening p front (i + 1) last
   opening-past n = record {
     one = earlier last refl;
-    most = λ j time l h. upto {P = λ j. front ≤ j → OpensAt p j time → time ≤ last} (λ j h l. so-far .most j time l h) (λ l o. contrary n (o .0)) j h l;
+    most = λ j time l h. upto {P = λ j. front ≤ j → OpensAt p j time → time ≤ last} (λ j h l. so-far .most j time l h)
+        (λ l o. contrary n (o .0)) j h l;
   }
 
 abbrev Inv-loop : tie.InvT-loop
@@ -60,14 +62,17 @@ loop-again c =
     let i = l .loop .i in
     let (here, (low, so-far)) = l .loop .inv in
     let read = read-by p i (l .before .before .record-size .ensures) (k .record-at .ensures .0) in
-    let none : n .is-none .result ≡ isNone (lifeOf (recordAt (recordSize (strideOf p)) i p) .begin) = n .is-none .ensures ∙ ap (λ (x : Life). isNone (x .begin)) (n .before .before .life-of .ensures ∙ ap lifeOf read) in (
+    let none : n .is-none .result ≡ isNone (lifeOf (recordAt (recordSize (strideOf p)) i p) .begin) =
+    n .is-none .ensures ∙ ap (λ (x : Life). isNone (x .begin)) (n .before .before .life-of .ensures ∙ ap lifeOf read) in (
       omega arith,
       (
         omega arith,
         ⊎-elim
-            (λ (y, q, b, g, e). subst (LastOpening p (s .args .front) (i + 1)) (sym (e ∙ g .ensures ∙ ap (λ (x : Period). max (l .loop .last) (x .begin .0)) (q .ensures ∙ ap periodOf read)))
+            (λ (y, q, b, g, e). subst (LastOpening p (s .args .front) (i + 1))
+            (sym (e ∙ g .ensures ∙ ap (λ (x : Period). max (l .loop .last) (x .begin .0)) (q .ensures ∙ ap periodOf read)))
             (opening-more p (s .args .front) i (l .loop .last) here so-far (sym none ∙ not-true _ (y .taken))))
-            (λ (y, e). subst (LastOpening p (s .args .front) (i + 1)) (sym e) (opening-past p (s .args .front) i (l .loop .last) here so-far (sym none ∙ not-false _ (y .left))))
+            (λ (y, e). subst (LastOpening p (s .args .front) (i + 1)) (sym e)
+            (opening-past p (s .args .front) i (l .loop .last) here so-far (sym none ∙ not-false _ (y .left))))
             (c .if1 .came),
       ),
     )

@@ -13,7 +13,9 @@ use Rattle.baselines.proofs.times.note.Tie as tie
 
 abbrev Inv-loop : tie.InvT-loop
 Inv-loop permanent begins₀ ends₀ gones₀ size count i₀ begins ends gones i =
-    (i ≤ count) × ((length begins ≡ 256) × ((length ends ≡ 256) × ((length gones ≡ 256) × ((j : ℕ) → j < i → NotedAt permanent begins ends gones j))))
+    (i ≤ count)
+    × ((length begins ≡ 256)
+    × ((length ends ≡ 256) × ((length gones ≡ 256) × ((j : ℕ) → j < i → NotedAt permanent begins ends gones j))))
 
 abbrev μ-loop : tie.MeasureT-loop
 μ-loop permanent begins₀ ends₀ gones₀ size count i₀ begins ends gones i = count - i
@@ -22,7 +24,8 @@ abbrev start : tie.At-loop Inv-loop μ-loop → tie.Start Inv-loop μ-loop
 start l = l .before .before .before .before .before .before .before
 
 loop-holds : tie.Need-loop-holds Inv-loop μ-loop
-loop-holds c = let s = c .before .before .before .before .before .before in (omega arith, (s .pre .1 .0, (s .pre .1 .1 .0, (s .pre .1 .1 .1, λ j h. absurd (omega arith)))))
+loop-holds c = let s = c .before .before .before .before .before .before in
+    (omega arith, (s .pre .1 .0, (s .pre .1 .1 .0, (s .pre .1 .1 .1, λ j h. absurd (omega arith)))))
 
 -- the place is below 256
 low : (k : tie.In-loop Inv-loop μ-loop) → k .before .loop .i < 256
@@ -43,8 +46,20 @@ loop-again c =
     let all = l .loop .inv .1 .1 .1 .1 in
     let r = read-by p (l .loop .i) (l .before .before .record-size .ensures) (o .before .record-at .ensures .0) in
     let period = o .period-of .ensures ∙ ap periodOf r in
-    let life = v .life-of .ensures ∙ ap lifeOf r in
-    (omega arith, (simp length-set n, (simp length-set w, (simp length-set g, noted-turn p (l .loop .begins) (l .loop .ends) (l .loop .gones) (l .loop .i) _ _ _ (omega arith) (omega arith) (omega arith) all (ap (λ x. x .begin .0) period) (ap (λ x. x .end .0) period) (ap (λ x. x .end .0) life)))))
+    let life = v .life-of .ensures ∙ ap lifeOf r in (
+      omega arith,
+      (
+        simp length-set n,
+        (
+          simp length-set w,
+          (
+            simp length-set g,
+            noted-turn p (l .loop .begins) (l .loop .ends) (l .loop .gones) (l .loop .i) _ _ _ (omega arith)
+                (omega arith) (omega arith) all (ap (λ x. x .begin .0) period) (ap (λ x. x .end .0) period) (ap (λ x. x .end .0) life),
+          ),
+        ),
+      ),
+    )
 
 pub note-spec : {M : Type 1} → statement M
 note-spec =

@@ -11,7 +11,8 @@ use Rattle.baselines.proofs.times.soonest_of.Statement.{statement}
 use Rattle.baselines.proofs.times.soonest_of.Tie as tie
 
 abbrev Inv-loop : tie.InvT-loop
-Inv-loop times count since best soonest₀ i₀ soonest i = (i ≤ count) × ((since + soonest ≤ noInstant) × Least since (since + best) times i (since + soonest))
+Inv-loop times count since best soonest₀ i₀ soonest i =
+    (i ≤ count) × ((since + soonest ≤ noInstant) × Least since (since + best) times i (since + soonest))
 
 abbrev μ-loop : tie.MeasureT-loop
 μ-loop times count since best soonest₀ i₀ soonest i = count - i
@@ -23,15 +24,23 @@ loop-again c =
     let l = k .before .before in
     let s = l .before .before in
     let low = l .loop .inv .1 .0 in
-    let t : getD (s .args .times .now) (l .loop .i) 0 < 4294967296 = omega (arith, k .before .before .before .shared-slice-known .given (l .loop .i) .fits) in
-    (omega arith, (omega (arith, c .lesser .ensures, low), least-turn (s .args .since) _ _ _ (l .loop .soonest) (w .wrapping-sub-u32 .result) _ low (l .loop .inv .1 .1) (omega arith) t (w .wrapping-sub-u32 .ensures) (c .lesser .ensures)))
+    let t : getD (s .args .times .now) (l .loop .i) 0 < 4294967296 =
+    omega (arith, k .before .before .before .shared-slice-known .given (l .loop .i) .fits) in (
+      omega arith,
+      (
+        omega (arith, c .lesser .ensures, low),
+        least-turn (s .args .since) _ _ _ (l .loop .soonest)
+            (w .wrapping-sub-u32 .result) _ low (l .loop .inv .1 .1) (omega arith) t (w .wrapping-sub-u32 .ensures) (c .lesser .ensures),
+      ),
+    )
 
 returns : tie.Need-returns Inv-loop μ-loop
 returns c =
     let l = c .before in
     let s = l .before .before in
     let e : l .loop .i ≡ s .args .count = omega arith in
-    subst (λ (n : ℕ). Least (s .args .since) (s .args .since + s .args .best) (s .args .times .now) n (s .args .since + l .loop .soonest)) e (l .loop .inv .1 .1)
+    subst (λ (n : ℕ). Least (s .args .since) (s .args .since + s .args .best) (s .args .times .now) n
+    (s .args .since + l .loop .soonest)) e (l .loop .inv .1 .1)
 
 pub soonest-of-spec : {M : Type 1} → statement M
 soonest-of-spec =

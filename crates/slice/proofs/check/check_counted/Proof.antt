@@ -40,8 +40,10 @@ module _ (c : tie.After-mentions) where
   n = c .mentions .given .0 .0
 
   past14 : refuse refused (countedTests (S (c .before .before)) (R (c .before .before))) Sound
-      ≡ cond (not (timesOf (kindOf (R (c .before .before))) (periodOf (R (c .before .before))) (lifeOf (R (c .before .before))))) (refused 15)
-      (cond (not (contentOf (kindOf (R (c .before .before))) (lifeOf (R (c .before .before))) (eqb n 8) (ltb 0 n))) (refused 16) Sound)
+      ≡ cond (not (timesOf (kindOf (R (c .before .before))) (periodOf (R (c .before .before))) (lifeOf (R (c .before .before)))))
+      (refused 15)
+      (cond (not (contentOf (kindOf (R (c .before .before))) (lifeOf (R (c .before .before))) (eqb n 8) (ltb 0 n)))
+      (refused 16) Sound)
   past14 =
       let d = c .before .before in
       let told = survey-sound (S d) (drop 32 (R d)) n (sym (eight d) ∙ c .mentions .given .1) in
@@ -53,14 +55,19 @@ mentions-of t = t .before .before .before .before .before
 
 times : (t : tie.After-times-right) → let r = R (mentions-of t .before .before) in
     t .times-right .result ≡ timesOf (kindOf r) (periodOf r) (lifeOf r)
-times t = t .times-right .ensures ∙ (λ i. timesOf (t .before .before .before .byte .ensures i) (t .before .period-of .ensures i) (t .before .before .life-of .ensures i))
+times t =
+    t .times-right .ensures
+    ∙ (λ i. timesOf (t .before .before .before .byte .ensures i) (t .before .period-of .ensures i)
+    (t .before .before .life-of .ensures i))
 
 -- and so is the content
 content : (k : tie.After-content-right) → let t = k .before .before in let r = R (mentions-of t .before .before) in
     k .content-right .result ≡ contentOf (kindOf r) (lifeOf r) (eqb (n (mentions-of t)) 8) (ltb 0 (n (mentions-of t)))
 content k =
     let t = k .before .before in
-    k .content-right .ensures ∙ (λ i. contentOf (t .before .before .before .byte .ensures i) (t .before .before .life-of .ensures i) (eqb (n (mentions-of t)) 8) (ltb 0 (n (mentions-of t))))
+    k .content-right .ensures
+    ∙ (λ i. contentOf (t .before .before .before .byte .ensures i) (t .before .before .life-of .ensures i)
+    (eqb (n (mentions-of t)) 8) (ltb 0 (n (mentions-of t))))
 
 returns : tie.Need-returns
 returns c =
@@ -77,13 +84,15 @@ returns-3 : tie.Need-returns-3
 returns-3 c =
     let k = c .before in
     let t = k .before .before in
-    sym (past14 (mentions-of t) ∙ rw (sym (times t) ∙ not-false _ (k .before .if1 .left), sym (content k) ∙ not-true _ (c .if2 .taken)))
+    sym (past14 (mentions-of t)
+    ∙ rw (sym (times t) ∙ not-false _ (k .before .if1 .left), sym (content k) ∙ not-true _ (c .if2 .taken)))
 
 returns-4 : tie.Need-returns-4
 returns-4 c =
     let k = c .before in
     let t = k .before .before in
-    sym (past14 (mentions-of t) ∙ rw (sym (times t) ∙ not-false _ (k .before .if1 .left), sym (content k) ∙ not-false _ (c .if2 .left)))
+    sym (past14 (mentions-of t)
+    ∙ rw (sym (times t) ∙ not-false _ (k .before .if1 .left), sym (content k) ∙ not-false _ (c .if2 .left)))
 
 pub check-counted-spec : {M : Type 1} → statement M
 check-counted-spec =

@@ -71,20 +71,33 @@ returns-3 c =
 returns-4 : tie.Need-returns-4
 returns-4 c =
     let k = c .before .before in
-    ap checkedReply (c .check-counted .ensures ∙ sym (past12 (k .before) ∙ rw (sym (k .is-cancelled .ensures) ∙ not-true _ (c .before .if4 .taken))))
+    ap checkedReply
+    (c .check-counted .ensures
+    ∙ sym (past12 (k .before) ∙ rw (sym (k .is-cancelled .ensures) ∙ not-true _ (c .before .if4 .taken))))
 
 returns-5 : tie.Need-returns-5
 returns-5 c =
     let m = c .before in
     let k = m .before .before in
     ap checkedReply
-    (sym (past12 (k .before) ∙ rw (sym (k .is-cancelled .ensures) ∙ not-false _ (m .before .if4 .left), sym (m .is-emptied .ensures) ∙ not-true _ (c .if5 .taken))))
+    (sym (past12 (k .before)
+    ∙ rw (
+      sym (k .is-cancelled .ensures) ∙ not-false _ (m .before .if4 .left),
+      sym (m .is-emptied .ensures)
+          ∙ not-true _ (c .if5 .taken),
+    )))
 
 returns-6 : tie.Need-returns-6
 returns-6 c =
     let m = c .before in
     let k = m .before .before in
-    ap checkedReply (sym (past12 (k .before) ∙ rw (sym (k .is-cancelled .ensures) ∙ not-false _ (m .before .if4 .left), sym (m .is-emptied .ensures) ∙ not-false _ (c .if5 .left))))
+    ap checkedReply
+    (sym (past12 (k .before)
+    ∙ rw (
+      sym (k .is-cancelled .ensures) ∙ not-false _ (m .before .if4 .left),
+      sym (m .is-emptied .ensures)
+          ∙ not-false _ (c .if5 .left),
+    )))
 
 pub check-record-spec : {M : Type 1} → statement M
 check-record-spec =

@@ -38,7 +38,8 @@ size c = eqb-true _ _ (sym (c .before .is-sized .ensures) ∙ not-false _ (c .if
 
 -- past 9: what is left of the check
 past9 : (c : tie.Else1) → Answer (s1 c)
-    ≡ cond (not (sameBytes (take 16 (B (s1 c))) (F (s1 c)))) (refused 10) (refuse refused (recordTests (S (s1 c)) (s1 c .args .side) (drop 16 (B (s1 c)))) Sound)
+    ≡ cond (not (sameBytes (take 16 (B (s1 c))) (F (s1 c)))) (refused 10)
+    (refuse refused (recordTests (S (s1 c)) (s1 c .args .side) (drop 16 (B (s1 c)))) Sound)
 past9 c = slice-is _ _ _ _ ∙ rw (eq-eqb _ _ (size c))
 
 -- what is left after the feature is a record

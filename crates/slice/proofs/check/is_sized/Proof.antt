@@ -24,7 +24,8 @@ returns-2 c =
 returns-3 : tie.Need-returns-3
 returns-3 c =
     let a = c .before .before .args in
-    iff (eqb ((length (a .s .now) - a .head) / 8) (a .stride)) (eqb (length (a .s .now)) (a .head + 8 * a .stride)) (λ e. omega tests) (λ e. omega tests)
+    iff (eqb ((length (a .s .now) - a .head) / 8) (a .stride)) (eqb (length (a .s .now)) (a .head + 8 * a .stride))
+    (λ e. omega tests) (λ e. omega tests)
 
 pub is-sized-spec : {M : Type 1} → statement M
 is-sized-spec = tie.close (tie.spec returns (λ c. search needs) returns-2 returns-3)

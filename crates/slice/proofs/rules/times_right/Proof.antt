@@ -27,7 +27,13 @@ returns-4 : tie.Need-returns-4
 unfolding timesOf
 returns-4 c =
     let e = c .before .before .before in
-    rw (c .tempdelta-times .ensures, sym (e .before .is-none .ensures) ∙ e .if1 .left, ne-eqb _ _ (c .before .before .if2 .left), ne-eqb _ _ (c .before .if3 .left))
+    rw (
+      c .tempdelta-times .ensures,
+      sym (e .before .is-none .ensures)
+          ∙ e .if1 .left,
+      ne-eqb _ _ (c .before .before .if2 .left),
+      ne-eqb _ _ (c .before .if3 .left),
+    )
 
 pub times-right-spec : {M : Type 1} → statement M
 times-right-spec =

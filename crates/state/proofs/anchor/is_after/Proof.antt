@@ -13,7 +13,8 @@ returns c = rw (c .before .if1 .taken, c .precedes .ensures)
 
 returns-2 : tie.Need-returns-2
 unfolding afterStart turnLess lexLess numbers
-returns-2 c = rw (c .before .before .before .if1 .left, c .before .before .precedes2 .ensures, c .before .is .ensures, c .precedes3 .ensures)
+returns-2 c =
+    rw (c .before .before .before .if1 .left, c .before .before .precedes2 .ensures, c .before .is .ensures, c .precedes3 .ensures)
 
 pub is-after-spec : {M : Type 1} → statement M
 is-after-spec =

@@ -18,7 +18,8 @@ given-life size t (suc i) h = let e : suc i - 1 ≡ i = omega arith in ap (λ (n
 returns : tie.Need-returns
 returns c =
     let a = c .before .before .before .before .args in
-    ap₂ (λ (b e : Instant). record { begin = b; end = e }) (c .before .none .ensures) (c .none2 .ensures) ∙ ap (lifeAt (a .size) (a .permanent .now)) (sym (c .before .before .if1 .taken))
+    ap₂ (λ (b e : Instant). record { begin = b; end = e }) (c .before .none .ensures) (c .none2 .ensures)
+    ∙ ap (lifeAt (a .size) (a .permanent .now)) (sym (c .before .before .if1 .taken))
 
 pub life-at-spec : {M : Type 1} → statement M
 life-at-spec =

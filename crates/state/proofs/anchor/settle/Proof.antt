@@ -28,7 +28,8 @@ settle-spec =
     begun-requires-2
     (λ c. search needs)
     (λ c. none-found _ _ _ _ _ (c .before .before .enum-told .given .1) (c .enum-told2 .given .1))
-    (λ c. c .begun .ensures ∙ one-opened _ _ _ _ _ _ (c .before .before .before .before .enum-told .given .1) (c .before .before .openings .given .1))
+    (λ c. c .begun .ensures
+    ∙ one-opened _ _ _ _ _ _ (c .before .before .before .before .enum-told .given .1) (c .before .before .openings .given .1))
     (λ c. two-opened _ _ _ _ _ (c .before .before .enum-told .given .1) (c .enum-told3 .given .1))
     (λ c. c .begun2 .ensures ∙ one-based _ _ _ _ _ _ (c .before .before .bases .given .1))
     (λ c. two-based _ _ _ _ _ (c .enum-told4 .given .1)))

@@ -13,26 +13,45 @@ use borrow.Author.Needs.{needs}
 use Rattle.state.proofs.answer.check_both.Statement.{statement}
 use Rattle.state.proofs.answer.check_both.Tie as tie
 
-first : (c : tie.After-enum-told) → checkTable sides.Permanent (c .before .before .before .before .before .args .permanent .now) ≡ Sound
+first : (c : tie.After-enum-told)
+    → checkTable sides.Permanent (c .before .before .before .before .before .args .permanent .now) ≡ Sound
 first c = sym (checked-told _ _ (c .before .before .check-table .ensures)) ∙ c .enum-told .given .1
 
-second : (c : tie.After-enum-told2) → checkTable sides.Temporary (c .before .before .before .before .before .before .before .before .args .temporary .now) ≡ Sound
+second : (c : tie.After-enum-told2)
+    → checkTable sides.Temporary (c .before .before .before .before .before .before .before .before .args .temporary .now) ≡ Sound
 second c = sym (checked-told _ _ (c .before .before .check-table2 .ensures)) ∙ c .enum-told2 .given .1
 
 returns-2 : tie.Need-returns-2
-returns-2 c = both-second _ _ (first (c .before .before .before .before)) _ (sym (checked-told _ _ (c .before .before .before .check-table2 .ensures)) ∙ c .before .refusal2 .given .1)
+returns-2 c =
+    both-second _ _ (first (c .before .before .before .before)) _
+    (sym (checked-told _ _ (c .before .before .before .check-table2 .ensures)) ∙ c .before .refusal2 .given .1)
 
 part-same-end : tie.Need-part-same-end
-part-same-end c = omega (arith, sound-table sides.Permanent (c .before .before .before .before .before .before .before .before .args .permanent .now) (first (c .before .before .before)) .headed)
+part-same-end c =
+    omega (
+      arith,
+      sound-table sides.Permanent
+          (c .before .before .before .before .before .before .before .before .args .permanent .now)
+          (first (c .before .before .before)) .headed,
+    )
 
 part-same-end-2 : tie.Need-part-same-end-2
-part-same-end-2 c = omega (arith, sound-table sides.Temporary (c .before .before .before .before .before .before .before .before .before .args .temporary .now) (second (c .before)) .headed)
+part-same-end-2 c =
+    omega (
+      arith,
+      sound-table sides.Temporary
+          (c .before .before .before .before .before .before .before .before .before .args .temporary .now) (second (c .before)) .headed,
+    )
 
 returns-3 : tie.Need-returns-3
-returns-3 c = ap (λ b. cond b (refused 8) Sound) (sym (c .if1 .taken)) ∙ both-last _ _ (first (c .before .before .before .before .before .before .before)) (second (c .before .before .before .before)) _ (c .before .same .ensures)
+returns-3 c = ap (λ b. cond b (refused 8) Sound) (sym (c .if1 .taken))
+    ∙ both-last _ _ (first (c .before .before .before .before .before .before .before))
+    (second (c .before .before .before .before)) _ (c .before .same .ensures)
 
 returns-4 : tie.Need-returns-4
-returns-4 c = ap (λ b. cond b (refused 8) Sound) (sym (c .if1 .left)) ∙ both-last _ _ (first (c .before .before .before .before .before .before .before)) (second (c .before .before .before .before)) _ (c .before .same .ensures)
+returns-4 c = ap (λ b. cond b (refused 8) Sound) (sym (c .if1 .left))
+    ∙ both-last _ _ (first (c .before .before .before .before .before .before .before))
+    (second (c .before .before .before .before)) _ (c .before .same .ensures)
 
 pub check-both-spec : {M : Type 1} → statement M
 check-both-spec =
@@ -40,7 +59,8 @@ check-both-spec =
     (tie.spec
     (λ c κs. search needs)
     (λ c. search needs)
-    (λ c. both-first _ _ _ (sym (checked-told _ _ (c .before .before .before .check-table .ensures)) ∙ c .before .refusal .given .1))
+    (λ c. both-first _ _ _
+    (sym (checked-told _ _ (c .before .before .before .check-table .ensures)) ∙ c .before .refusal .given .1))
     (λ c. search needs)
     (λ c κs. search needs)
     (λ c. search needs)

@@ -11,12 +11,17 @@ use borrow.Author.Needs.{needs}
 use Rattle.state.proofs.answer.permanent_state.Statement.{statement}
 use Rattle.state.proofs.answer.permanent_state.Tie as tie
 
-sound : (c : tie.After-enum-told) → checkTable sides.Permanent (c .before .before .before .before .before .args .permanent .now) ≡ Sound
+sound : (c : tie.After-enum-told)
+    → checkTable sides.Permanent (c .before .before .before .before .before .args .permanent .now) ≡ Sound
 sound c = sym (checked-told _ _ (c .before .before .check-table .ensures)) ∙ c .enum-told .given .1
 
 returns : tie.Need-returns
-returns c =
-    (ap outcomeReply (state-refused _ _ _ _ (sym (checked-told _ _ (c .before .before .before .check-table .ensures)) ∙ c .before .refusal .given .1)), refl)
+returns c = (
+  ap outcomeReply
+      (state-refused _ _ _ _
+      (sym (checked-told _ _ (c .before .before .before .check-table .ensures)) ∙ c .before .refusal .given .1)),
+  refl,
+)
 
 returns-2 : tie.Need-returns-2
 returns-2 c =
@@ -26,4 +31,5 @@ returns-2 c =
 pub permanent-state-spec : {M : Type 1} → statement M
 permanent-state-spec =
     tie.close
-    (tie.spec (λ c κs. search needs) (λ c. search needs) returns (λ c. search needs) (λ c κs. sound-walkable _ sides.Permanent (sound (c .before))) (λ c. search needs) returns-2)
+    (tie.spec (λ c κs. search needs) (λ c. search needs) returns (λ c. search needs)
+    (λ c κs. sound-walkable _ sides.Permanent (sound (c .before))) (λ c. search needs) returns-2)

@@ -1,4 +1,5 @@
--- `state::answer::snapshot` meets its contract: past the tests, the survey settles the standing, and what is written is the record of the state with the TEMPDELTAs that are valid. Assumes nothing.
+-- `state::answer::snapshot` meets its contract: past the tests, the survey settles the standing, and what is written is the record
+-- of the state with the TEMPDELTAs that are valid. Assumes nothing.
 use Prim.Native.Nat.{ℕ}
 use mathlib.Core.Path.{_≡_, refl, sym, ap, subst, _∙_}
 use mathlib.Core.List.{List}
@@ -19,9 +20,9 @@ use Rattle.state.specs.Steps.{Walkable, sinceOf}
 use Rattle.state.proofs.Slices.{sound-walkable}
 use Rattle.state.specs.declared.anchor.Standing as anchor
 use Rattle.state.specs.declared.anchor.Standing.the-variants.{From}
-use Rattle.state.proofs.Settled.{known-valid, Settled}
-use Rattle.state.proofs.Surveyed.{Surveyed, settle-asks, settles, mark-known}
-use Rattle.state.proofs.Filled.{snapshot-filled}
+use Rattle.state.proofs.OnePass.{known-valid, Settled}
+use Rattle.state.proofs.SurveyResult.{Surveyed, settle-asks, settles, mark-known}
+use Rattle.state.proofs.StateRecord.{snapshot-filled}
 use Rattle.state.proofs.Stages.{both-sound, snapshot-refused, snapshot-left, left-none, left-misfit, left-asked}
 use borrow.Author.Needs.{needs}
 use Rattle.state.proofs.answer.snapshot.Statement.{statement}
@@ -54,24 +55,30 @@ module _ (c : tie.After-enum-told) where
   whole2 = sound-table sides.Temporary other (sound .1) .roomy
 
   -- the snapshot where the permanent state is told
-  laid : (s : Standing) → permanentAt (start .args .instant) (slicesOf table) ≡ s → standing ≡ overlaid (passing (start .args .instant) (slicesOf other)) s
+  laid : (s : Standing) → permanentAt (start .args .instant) (slicesOf table) ≡ s
+      → standing ≡ overlaid (passing (start .args .instant) (slicesOf other)) s
   unfolding snapshotAt
   laid s e = ap (overlaid (passing (start .args .instant) (slicesOf other))) e
 
 -- 19 and 23 are past
-fits : (c : tie.Else2) → let k = c .before .before .before .before in length (start k .args .«record» .now) ≡ recordSize (strideOf (table k))
+fits : (c : tie.Else2)
+    → let k = c .before .before .before .before in length (start k .args .«record» .now) ≡ recordSize (strideOf (table k))
 fits c = c .if2 .left ∙ c .before .record-size .ensures
 
-asked : (c : tie.Else2) → let k = c .before .before .before .before in outcomeOf (standing k) ≡ snapshotOf (table k) (other k) (start k .args .instant) (start k .args .«record» .now)
+asked : (c : tie.Else2)
+    → let k = c .before .before .before .before in
+    outcomeOf (standing k) ≡ snapshotOf (table k) (other k) (start k .args .instant) (start k .args .«record» .now)
 asked c =
     let k = c .before .before .before .before in
-    left-asked _ _ _ (standing k) (sym (c .before .before .before .is-none .ensures) ∙ c .before .before .if1 .left) (fits c) ∙ snapshot-left _ _ _ _ (checked k)
+    left-asked _ _ _ (standing k) (sym (c .before .before .before .is-none .ensures) ∙ c .before .before .if1 .left) (fits c)
+    ∙ snapshot-left _ _ _ _ (checked k)
 
 -- what was found, and what that settles
 abbrev told : tie.After-survey-permanent → tie.After-enum-told
 told c = c .before .before .before .before .before
 
-surveyed : (c : tie.After-survey-permanent) → Surveyed (start (told c) .args .instant) (table (told c)) 0 8 (c .survey-permanent .result)
+surveyed : (c : tie.After-survey-permanent)
+    → Surveyed (start (told c) .args .instant) (table (told c)) 0 8 (c .survey-permanent .result)
 surveyed c =
     let (bases, (openings, (long, marks))) = c .survey-permanent .ensures in
     record { walkable = walkable (told c); bases = bases; openings = openings; long = long; marks = marks }
@@ -87,13 +94,20 @@ begun c = subst (Stood (c .before .before .before)) (c .start .given .1) (stood 
 
 returns-2 : tie.Need-returns-2
 returns-2 c =
-    let k = c .before .before in
-    (ap outcomeReply (left-none _ _ _ (standing k) (sym (c .before .is-none .ensures) ∙ c .if1 .taken) ∙ snapshot-left _ _ _ _ (checked k)), refl)
+    let k = c .before .before in (
+      ap outcomeReply
+          (left-none _ _ _ (standing k) (sym (c .before .is-none .ensures) ∙ c .if1 .taken) ∙ snapshot-left _ _ _ _ (checked k)),
+      refl,
+    )
 
 returns-3 : tie.Need-returns-3
 returns-3 c =
-    let k = c .before .before .before .before in
-    (ap outcomeReply (left-misfit _ _ _ (standing k) (sym (c .before .before .before .is-none .ensures) ∙ c .before .before .if1 .left) (λ e. c .if2 .taken (e ∙ sym (c .before .record-size .ensures))) ∙ snapshot-left _ _ _ _ (checked k)), refl)
+    let k = c .before .before .before .before in (
+      ap outcomeReply
+          (left-misfit _ _ _ (standing k) (sym (c .before .before .before .is-none .ensures) ∙ c .before .before .if1 .left)
+          (λ e. c .if2 .taken (e ∙ sym (c .before .record-size .ensures))) ∙ snapshot-left _ _ _ _ (checked k)),
+      refl,
+    )
 
 put-state-requires : tie.Need-put-state-requires
 put-state-requires c κs =
@@ -125,7 +139,8 @@ returns-5 c =
     let e = laid k _ (b .state) in (
       ap outcomeReply (sym (ap outcomeOf e) ∙ asked (v .before)),
       c .before .before .put-state .ensures
-          ∙ (snapshot-filled _ (a .instant) (table k) (walkable k .whole) (walkable k .rising) _ b (v .survey-permanent .result .latest .marks) (surveyed v .marks) (other k) (o .result) (sound k .1) (o .ensures .1)
+          ∙ (snapshot-filled _ (a .instant) (table k) (walkable k .whole) (walkable k .rising) _ b
+          (v .survey-permanent .result .latest .marks) (surveyed v .marks) (other k) (o .result) (sound k .1) (o .ensures .1)
           ∙ sym (ap (λ (s : Standing). recordOf (strideOf (table k)) (a .instant) s (a .«record» .now)) e)),
     )
 
@@ -135,7 +150,11 @@ snapshot-spec =
     (tie.spec
     (λ c κs. search needs)
     (λ c. search needs)
-    (λ c. (ap outcomeReply (snapshot-refused _ _ _ _ _ (sym (c .before .before .before .check-both .ensures) ∙ c .before .refusal .given .1)), refl))
+    (λ c. (
+      ap outcomeReply
+          (snapshot-refused _ _ _ _ _ (sym (c .before .before .before .check-both .ensures) ∙ c .before .refusal .given .1)),
+      refl,
+    ))
     (λ c. search needs)
     (λ c κs. search needs)
     returns-2

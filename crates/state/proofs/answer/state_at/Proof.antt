@@ -18,8 +18,12 @@ write-state-requires : tie.Need-write-state-requires
 write-state-requires c κs = ordered-walkable _ (order-sound _ (sound (c .before)))
 
 returns : tie.Need-returns
-returns c =
-    (ap outcomeReply (order-refused _ _ _ _ (sym (checked-told _ _ (c .before .before .before .check-order .ensures)) ∙ c .before .refusal .given .1)), refl)
+returns c = (
+  ap outcomeReply
+      (order-refused _ _ _ _
+      (sym (checked-told _ _ (c .before .before .before .check-order .ensures)) ∙ c .before .refusal .given .1)),
+  refl,
+)
 
 returns-2 : tie.Need-returns-2
 returns-2 c =
@@ -29,4 +33,5 @@ returns-2 c =
 pub state-at-spec : {M : Type 1} → statement M
 state-at-spec =
     tie.close
-    (tie.spec (λ c κs. search needs) (λ c. search needs) returns (λ c. search needs) write-state-requires (λ c. search needs) returns-2)
+    (tie.spec (λ c κs. search needs) (λ c. search needs) returns (λ c. search needs) write-state-requires
+    (λ c. search needs) returns-2)

@@ -1,4 +1,5 @@
--- `state::answer::write_state` meets its contract: past the tests, the survey settles the standing, and what is written is the state's record. Assumes nothing.
+-- `state::answer::write_state` meets its contract: past the tests, the survey settles the standing, and what is written is the
+-- state's record. Assumes nothing.
 use Prim.Native.Nat.{ℕ}
 use mathlib.Core.Path.{_≡_, refl, sym, ap, subst, _∙_}
 use mathlib.Core.List.{List}
@@ -12,9 +13,9 @@ use Rattle.state.specs.Asking.{slicesOf, outcomeOf, recordOf}
 use Rattle.state.specs.Steps.{leftOf, sinceOf}
 use Rattle.state.specs.declared.anchor.Standing as anchor
 use Rattle.state.specs.declared.anchor.Standing.the-variants.{From}
-use Rattle.state.proofs.Settled.{Settled}
-use Rattle.state.proofs.Surveyed.{Surveyed, settle-asks, settles, mark-known}
-use Rattle.state.proofs.Filled.{state-filled}
+use Rattle.state.proofs.OnePass.{Settled}
+use Rattle.state.proofs.SurveyResult.{Surveyed, settle-asks, settles, mark-known}
+use Rattle.state.proofs.StateRecord.{state-filled}
 use Rattle.state.proofs.Stages.{left-none, left-misfit, left-asked}
 use borrow.Author.Needs.{needs}
 use Rattle.state.proofs.answer.write_state.Statement.{statement}
@@ -33,11 +34,15 @@ standing s = permanentAt (s .args .instant) (slicesOf (table s))
 fits : (c : tie.Else2) → length (start c .args .«record» .now) ≡ recordSize (strideOf (table (start c)))
 fits c = c .if2 .left ∙ c .before .record-size .ensures
 
-asked : (c : tie.Else2) → let s = start c in outcomeOf (standing s) ≡ leftOf (table s) (s .args .instant) (s .args .«record» .now) (standing s)
-asked c = left-asked _ _ _ (standing (start c)) (sym (c .before .before .before .is-none .ensures) ∙ c .before .before .if1 .left) (fits c)
+asked : (c : tie.Else2)
+    → let s = start c in outcomeOf (standing s) ≡ leftOf (table s) (s .args .instant) (s .args .«record» .now) (standing s)
+asked c =
+    left-asked _ _ _ (standing (start c)) (sym (c .before .before .before .is-none .ensures) ∙ c .before .before .if1 .left)
+    (fits c)
 
 -- what was found, and what that settles
-surveyed : (c : tie.After-survey-permanent) → let s = start (c .before) in Surveyed (s .args .instant) (table s) 0 8 (c .survey-permanent .result)
+surveyed : (c : tie.After-survey-permanent)
+    → let s = start (c .before) in Surveyed (s .args .instant) (table s) 0 8 (c .survey-permanent .result)
 surveyed c =
     let s = start (c .before) in
     let (bases, (openings, (long, marks))) = c .survey-permanent .ensures in
@@ -54,8 +59,11 @@ begun c = subst (Stood (c .before .before .before)) (c .start .given .1) (stood 
 
 returns-2 : tie.Need-returns-2
 returns-2 c =
-    let s = c .before .before .before .before .before .before in
-    (left-misfit _ _ _ (standing s) (sym (c .before .before .before .is-none .ensures) ∙ c .before .before .if1 .left) (λ e. c .if2 .taken (e ∙ sym (c .before .record-size .ensures))), refl)
+    let s = c .before .before .before .before .before .before in (
+      left-misfit _ _ _ (standing s) (sym (c .before .before .before .is-none .ensures) ∙ c .before .before .if1 .left)
+          (λ e. c .if2 .taken (e ∙ sym (c .before .record-size .ensures))),
+      refl,
+    )
 
 survey-permanent-requires : tie.Need-survey-permanent-requires
 survey-permanent-requires c κs = (start c .pre, (omega arith, omega arith))
@@ -89,7 +97,9 @@ returns-4 c =
     let b = begun (c .before .before .before .before .before .before) in (
       sym (ap outcomeOf (b .state)) ∙ asked (k .before),
       c .before .before .put-state .ensures
-          ∙ (state-filled _ (s .args .instant) (table s) (s .pre .whole) (s .pre .rising) _ b (k .survey-permanent .result .latest .marks) (surveyed k .marks) (table s) (replicate {A = ℕ} 8 0) (λ q h. getD-replicate {A = ℕ} 8 q 0 0 h)
+          ∙ (state-filled _ (s .args .instant) (table s) (s .pre .whole) (s .pre .rising) _ b
+          (k .survey-permanent .result .latest .marks) (surveyed k .marks) (table s) (replicate {A = ℕ} 8 0)
+          (λ q h. getD-replicate {A = ℕ} 8 q 0 0 h)
           ∙ sym (ap (λ (v : Standing). recordOf (strideOf (table s)) (s .args .instant) v (s .args .«record» .now)) (b .state))),
     )
 
@@ -98,7 +108,11 @@ write-state-spec =
     tie.close
     (tie.spec
     (λ c κs. search needs)
-    (λ c. (left-none _ _ _ (standing (c .before .before .before .before)) (sym (c .before .is-none .ensures) ∙ c .if1 .taken), refl))
+    (λ c. (
+      left-none _ _ _ (standing (c .before .before .before .before))
+          (sym (c .before .is-none .ensures) ∙ c .if1 .taken),
+      refl,
+    ))
     (λ c κs. search needs)
     returns-2
     survey-permanent-requires

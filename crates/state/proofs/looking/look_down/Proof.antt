@@ -17,7 +17,7 @@ use Rattle.state.specs.Asking.{slicesOf}
 use Rattle.state.specs.Steps.{holding}
 use Rattle.state.specs.declared.looking.Touched.the-variants.{Yes, No}
 use Rattle.state.proofs.Slices.{slices-end}
-use Rattle.state.proofs.Settled.{sliceHere}
+use Rattle.state.proofs.OnePass.{sliceHere}
 use Rattle.state.proofs.Views.{valid-holding}
 use Rattle.state.proofs.Walks.{Read, read-here}
 use Rattle.state.proofs.Touches.{found-here, quiet-here, found-nowhere}
@@ -49,7 +49,8 @@ module _ (k : tie.After-record-at Inv-loop μ-loop) where
   below = omega arith
 
   read : Read table place (k .before .before .before .before .stride-of .result) (k .record-at .result .now)
-  read = read-here table place (k .before .before .before .before .stride-of .ensures) (k .record-at .ensures .0) (start .pre .0) below
+  read = read-here table place (k .before .before .before .before .stride-of .ensures) (k .record-at .ensures .0)
+      (start .pre .0) below
 
   -- none behind it touches the property
   quiet : any (touches (start .args .instant) (start .args .n)) (drop (place + 1) (slicesOf table)) ≡ false
@@ -77,15 +78,19 @@ loop-holds c =
 loop-again : tie.Need-loop-again Inv-loop μ-loop
 loop-again c =
     let k = c .before .before .before in
-    let a = start k .args in
-    (omega arith, quiet-here (table k) (start k .pre .0) (a .instant) (a .n) (place k) (below k) (quiet k) (sym (told (c .before)) ∙ c .if1 .left))
+    let a = start k .args in (
+      omega arith,
+      quiet-here (table k) (start k .pre .0) (a .instant) (a .n) (place k) (below k) (quiet k)
+          (sym (told (c .before)) ∙ c .if1 .left),
+    )
 
 returns : tie.Need-returns Inv-loop μ-loop
 returns c =
     let k = c .before .before .before in
     let a = start k .args in
     ap (λ m. Yes (m - place k)) (k .before .before .before .count-of .ensures)
-    ∙ found-here (table k) (start k .pre .0) (a .instant) (a .n) (place k) (below k) (quiet k) (sym (told (c .before)) ∙ c .if1 .taken)
+    ∙ found-here (table k) (start k .pre .0) (a .instant) (a .n) (place k) (below k) (quiet k)
+    (sym (told (c .before)) ∙ c .if1 .taken)
 
 returns-2 : tie.Need-returns-2 Inv-loop μ-loop
 returns-2 c =

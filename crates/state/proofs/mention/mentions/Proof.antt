@@ -17,4 +17,7 @@ add-byte c =
     omega (arith, piece-within (a .stride) (a .n) 8 (c .before .pre .1))
 
 pub mentions-spec : {M : Type 1} → statement M
-mentions-spec = tie.close (tie.spec mul-byte add-byte (λ c κs. search needs) (λ c. rw (c .byte .ensures) (tells-property _ _ _ (c .before .before .pre .1) (c .before .before .pre .0))))
+mentions-spec =
+    tie.close
+    (tie.spec mul-byte add-byte (λ c κs. search needs)
+    (λ c. rw (c .byte .ensures) (tells-property _ _ _ (c .before .before .pre .1) (c .before .before .pre .0))))

@@ -1,4 +1,5 @@
--- `state::question::locate` meets its contract: past the tests, the survey settles the standing, and the two marks tell the place. Assumes nothing.
+-- `state::question::locate` meets its contract: past the tests, the survey settles the standing, and the two marks tell the place.
+-- Assumes nothing.
 use Prim.Native.Nat.{ℕ, _+_, _<_}
 use mathlib.Core.Path.{_≡_, sym, ap, subst, _∙_}
 use mathlib.Core.Bool.{false, _||_}
@@ -23,9 +24,9 @@ use Rattle.state.proofs.Slices.{sound-rising, sound-walkable}
 use Rattle.state.specs.declared.anchor.Standing as anchor
 use Rattle.state.specs.declared.anchor.Standing.the-variants.{From}
 use Rattle.state.specs.declared.question.Place.{Place}
-use Rattle.state.proofs.Settled.{known-valid, Settled}
-use Rattle.state.proofs.Surveyed.{Surveyed, settle-asks, settles, mark-due, mark-known}
-use Rattle.state.proofs.Placed.{placed-is}
+use Rattle.state.proofs.OnePass.{known-valid, Settled}
+use Rattle.state.proofs.SurveyResult.{Surveyed, settle-asks, settles, mark-due, mark-known}
+use Rattle.state.proofs.PropertyPlace.{placed-is}
 use Rattle.state.proofs.Stages.{both-sound, place-refused, place-none, place-left}
 use borrow.Author.Needs.{needs}
 use Rattle.state.proofs.question.locate.Statement.{statement}
@@ -59,20 +60,27 @@ module _ (c : tie.After-enum-told) where
   whole2 = sound-table sides.Temporary other (sound .1) .roomy
 
 -- 19 is past
-test : (c : tie.After-is-none) → let a = start (c .before) .args in (c .is-none .result || ltb 7 (a .property)) ≡ (isNone (a .instant) || ltb 7 (a .property))
+test : (c : tie.After-is-none) → let a = start (c .before) .args in
+    (c .is-none .result || ltb 7 (a .property)) ≡ (isNone (a .instant) || ltb 7 (a .property))
 test c = ap (λ b. b || ltb 7 (start (c .before) .args .property)) (c .is-none .ensures)
 
-asked : (c : tie.Else1) → let k = c .before .before in answer k (permanentAt (start k .args .instant) (slicesOf (table k))) ≡ placeOf (table k) (other k) (start k .args .instant) (start k .args .property)
+asked : (c : tie.Else1)
+    → let k = c .before .before in
+    answer k (permanentAt (start k .args .instant) (slicesOf (table k))) ≡ placeOf (table k) (other k) (start k .args .instant)
+    (start k .args .property)
 asked c = place-left _ _ _ _ (checked (c .before .before)) (sym (test (c .before)) ∙ c .if1 .left)
 
 small : (c : tie.Else1) → start (c .before .before) .args .property < 8
-small c = let e : ltb 7 (start (c .before .before) .args .property) ≡ false = or-neither (c .before .is-none .result) _ (c .if1 .left) .1 in omega tests
+small c = let e : ltb 7 (start (c .before .before) .args .property) ≡ false =
+    or-neither (c .before .is-none .result) _ (c .if1 .left) .1 in omega tests
 
 -- what was found, and what that settles
 abbrev told : tie.After-survey-permanent → tie.After-enum-told
 told c = c .before .before .before
 
-surveyed : (c : tie.After-survey-permanent) → let n = start (told c) .args .property in Surveyed (start (told c) .args .instant) (table (told c)) n (n + 1) (c .survey-permanent .result)
+surveyed : (c : tie.After-survey-permanent)
+    → let n = start (told c) .args .property in
+    Surveyed (start (told c) .args .instant) (table (told c)) n (n + 1) (c .survey-permanent .result)
 surveyed c =
     let (bases, (openings, (long, marks))) = c .survey-permanent .ensures in
     record { walkable = walkable (told c); bases = bases; openings = openings; long = long; marks = marks }
@@ -91,7 +99,8 @@ placed-requires c κs =
     let v = c .before .before .before .before .before .before .before in
     let k = told v in
     let n = start k .args .property in
-    let over = known-valid (start k .args .instant) (other k) (whole2 k) n _ (c .before .overlay .ensures .1 n (small (v .before))) in (
+    let over =
+    known-valid (start k .args .instant) (other k) (whole2 k) n _ (c .before .overlay .ensures .1 n (small (v .before))) in (
       small (v .before),
       (
         record { whole = walkable k .whole; below = begun (c .before .before .before .before) .place },
@@ -115,8 +124,11 @@ returns-4 c =
     let n = start k .args .property in
     ap placeReply
     (c .placed .ensures
-    ∙ (placed-is _ (start k .args .instant) (table k) (other k) (walkable k .whole) (walkable k .rising) (whole2 k) (sound-rising (other k) sides.Temporary (sound k .1)) _ (begun (c .before .before .before .before .before)) n (small (v .before))
-    _ (mark-due _ _ _ _ _ (surveyed v) n (omega arith) (omega arith)) _ (c .before .before .overlay .ensures .1 n (small (v .before)))
+    ∙ (placed-is _ (start k .args .instant) (table k) (other k) (walkable k .whole) (walkable k .rising) (whole2 k)
+    (sound-rising (other k) sides.Temporary (sound k .1)) _ (begun (c .before .before .before .before .before)) n
+    (small (v .before))
+    _ (mark-due _ _ _ _ _ (surveyed v) n (omega arith) (omega arith)) _
+    (c .before .before .overlay .ensures .1 n (small (v .before)))
     ∙ asked (v .before)))
 
 pub locate-spec : {M : Type 1} → statement M
@@ -125,7 +137,8 @@ locate-spec =
     (tie.spec
     (λ c κs. search needs)
     (λ c. search needs)
-    (λ c. ap placeReply (place-refused _ _ _ _ _ (sym (c .before .before .before .check-both .ensures) ∙ c .before .refusal .given .1)))
+    (λ c. ap placeReply
+    (place-refused _ _ _ _ _ (sym (c .before .before .before .check-both .ensures) ∙ c .before .refusal .given .1)))
     (λ c. search needs)
     (λ c κs. search needs)
     (λ c. ap placeReply (place-none _ _ _ _ (checked (c .before .before)) (sym (test (c .before)) ∙ c .if1 .taken)))

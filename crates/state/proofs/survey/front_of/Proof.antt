@@ -1,4 +1,5 @@
--- `state::survey::front_of` meets its contract. The loop: the tally stands for what was found so far, and each slice so far is none above BASELINE. Assumes nothing.
+-- `state::survey::front_of` meets its contract. The loop: the tally stands for what was found so far, and each slice so far is none
+-- above BASELINE. Assumes nothing.
 use Prim.Native.Nat.{ℕ, _+_, _-_, _≤_, _<_}
 use mathlib.Core.Path.{_≡_, refl, sym, ap, subst, _∙_}
 use mathlib.Core.Bool.{Bool}
@@ -30,7 +31,11 @@ use Rattle.state.proofs.survey.front_of.Statement.{statement}
 use Rattle.state.proofs.survey.front_of.Tie as tie
 
 abbrev Inv-loop : tie.InvT-loop
-Inv-loop permanent instant size count bases₀ i₀ bases i = (i ≤ count) × (Keeps (tallyWith (stands (slicesOf permanent) instant)) (λ few. few) bases (tallyFrom (stands (slicesOf permanent) instant) 0 Zero (slicesOf permanent)) i (drop i (slicesOf permanent)) × ((j : ℕ) (d : Slice) → j < i → getD (slicesOf permanent) j d .kind ≤ baseline))
+Inv-loop permanent instant size count bases₀ i₀ bases i =
+    (i ≤ count)
+    × (Keeps (tallyWith (stands (slicesOf permanent) instant)) (λ few. few) bases
+    (tallyFrom (stands (slicesOf permanent) instant) 0 Zero (slicesOf permanent)) i (drop i (slicesOf permanent))
+    × ((j : ℕ) (d : Slice) → j < i → getD (slicesOf permanent) j d .kind ≤ baseline))
 
 abbrev μ-loop : tie.MeasureT-loop
 μ-loop permanent instant size count bases₀ i₀ bases i = count - i
@@ -73,7 +78,8 @@ told : (v : tie.After-is-holding Inv-loop μ-loop) → let k = v .before .before
 told v =
     let k = v .before .before .before in
     let t = start k .args .instant in
-    v .is-holding .ensures (strideOf (table k)) ∙ (ap (λ r. holding baseline t (viewOf (strideOf (table k)) r)) (read k) ∙ base-holding (slicesOf (table k)) t (here k))
+    v .is-holding .ensures (strideOf (table k))
+    ∙ (ap (λ r. holding baseline t (viewOf (strideOf (table k)) r)) (read k) ∙ base-holding (slicesOf (table k)) t (here k))
 
 returns : tie.Need-returns Inv-loop μ-loop
 returns c =
@@ -81,9 +87,11 @@ returns c =
     let l = k .before .before .loop in
     let rest = drop (place k + 1) (slicesOf (table k)) in
     let high : baseline < here k .kind = omega (arith, kind (c .before), c .if1 .taken) in
-    let up = subst (Rising sliceKey keyLess sameKey) (next k) (rising-drop sliceKey keyLess sameKey key-order (place k) (slicesOf (table k)) (start k .pre .rising)) in (
+    let up = subst (Rising sliceKey keyLess sameKey) (next k)
+    (rising-drop sliceKey keyLess sameKey key-order (place k) (slicesOf (table k)) (start k .pre .rising)) in (
       keeps-rest (tallyWith (test k)) (λ few. few) (l .bases) (all k) (place k) (here k ∷ rest)
-          (λ d m s n. tally-past (test k) n d (none-stands (slicesOf (table k)) (start k .args .instant) d (kinds-rise (here k) rest up high d m)) s)
+          (λ d m s n. tally-past (test k) n d
+          (none-stands (slicesOf (table k)) (start k .args .instant) d (kinds-rise (here k) rest up high d m)) s)
           (subst (Keeps (tallyWith (test k)) (λ few. few) (l .bases) (all k) (place k)) (next k) (l .inv .1 .0)),
       (omega arith, l .inv .1 .1),
     )
@@ -96,12 +104,17 @@ loop-again c =
       omega arith,
       (
         ⊎-elim
-            (λ x. keeps-turn (tallyWith (test k)) (λ few. few) (l .bases) _ (all k) (place k) (here k) _ _ (next k) (oneMore (place k)) (tally-turn (test k) (place k) (here k) (sym (told (c .before)) ∙ x .0 .taken)) (x .2 ∙ x .1 .ensures) (l .inv .1 .0))
-            (λ x. keeps-past (tallyWith (test k)) (λ few. few) (l .bases) _ (all k) (place k) (here k) _ _ (next k) (tally-past (test k) (place k) (here k) (sym (told (c .before)) ∙ x .0 .left)) (x .1) (l .inv .1 .0))
+            (λ x. keeps-turn (tallyWith (test k)) (λ few. few) (l .bases) _ (all k) (place k) (here k) _ _ (next k)
+            (oneMore (place k)) (tally-turn (test k) (place k) (here k) (sym (told (c .before)) ∙ x .0 .taken))
+            (x .2 ∙ x .1 .ensures) (l .inv .1 .0))
+            (λ x. keeps-past (tallyWith (test k)) (λ few. few) (l .bases) _ (all k) (place k) (here k) _ _ (next k)
+            (tally-past (test k) (place k) (here k) (sym (told (c .before)) ∙ x .0 .left)) (x .1) (l .inv .1 .0))
             (c .if2 .came),
         λ j d h.
             by-test (eqb j (place k))
-            (λ y. let e : j ≡ place k = omega tests in rw (ap (λ (n : ℕ). getD (slicesOf (table k)) n d) e ∙ slice-at (table k) (place k) d (below k) (start k .pre .whole)) low)
+            (λ y. let e : j ≡ place k = omega tests in
+            rw (ap (λ (n : ℕ). getD (slicesOf (table k)) n d) e ∙ slice-at (table k) (place k) d (below k) (start k .pre .whole))
+            low)
             (λ n. l .inv .1 .1 j d (omega tests)),
       ),
     )
@@ -110,8 +123,11 @@ returns-2 : tie.Need-returns-2 Inv-loop μ-loop
 returns-2 c =
     let l = c .before .loop in
     let a = c .before .before .before .before .before .args in
-    let f = stands (slicesOf (a .permanent .now)) (a .instant) in
-    (keeps-end (tallyWith f) (λ few. few) (l .bases) (tallyFrom f 0 Zero (slicesOf (a .permanent .now))) (l .i) _ (slices-end (a .permanent .now) (l .i) (omega arith)) (l .inv .1 .0), (omega arith, l .inv .1 .1))
+    let f = stands (slicesOf (a .permanent .now)) (a .instant) in (
+      keeps-end (tallyWith f) (λ few. few) (l .bases) (tallyFrom f 0 Zero (slicesOf (a .permanent .now))) (l .i) _
+          (slices-end (a .permanent .now) (l .i) (omega arith)) (l .inv .1 .0),
+      (omega arith, l .inv .1 .1),
+    )
 
 pub front-of-spec : {M : Type 1} → statement M
 front-of-spec =

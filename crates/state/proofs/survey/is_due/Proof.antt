@@ -14,8 +14,18 @@ returns c = λ stride. rw (sym (c .before .is-counted .ensures stride) ∙ not-t
 
 returns-2 : tie.Need-returns-2
 unfolding due holds viewOf
-returns-2 c = λ stride. rw (sym (c .before .before .before .before .before .is-counted .ensures stride) ∙ not-false _ (c .before .before .before .before .if1 .left), c .at-most2 .ensures, c .before .at-most .ensures, c .before .before .before .period-of .ensures)
+returns-2 c =
+    λ stride. rw (
+      sym (c .before .before .before .before .before .is-counted .ensures stride)
+          ∙ not-false _
+          (c .before .before .before .before .if1 .left),
+      c .at-most2 .ensures,
+      c .before .at-most .ensures,
+      c .before .before .before
+          .period-of .ensures,
+    )
 
 pub is-due-spec : {M : Type 1} → statement M
 is-due-spec =
-    tie.close (tie.spec (λ c κs. search needs) returns (λ c κs. search needs) (λ c κs. search needs) (λ c κs. search needs) returns-2)
+    tie.close
+    (tie.spec (λ c κs. search needs) returns (λ c κs. search needs) (λ c κs. search needs) (λ c κs. search needs) returns-2)

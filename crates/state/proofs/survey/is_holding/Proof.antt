@@ -14,7 +14,16 @@ returns c = λ stride. rw (sym (c .before .is-counted .ensures stride) ∙ not-t
 
 returns-2 : tie.Need-returns-2
 unfolding holding holds viewOf
-returns-2 c = λ stride. rw (sym (c .before .before .before .before .before .before .is-counted .ensures stride) ∙ not-false _ (c .before .before .before .before .before .if1 .left), c .precedes .ensures, c .before .at-most .ensures, c .before .before .before .before .period-of .ensures)
+returns-2 c =
+    λ stride. rw (
+      sym (c .before .before .before .before .before .before .is-counted .ensures stride)
+          ∙ not-false _
+          (c .before .before .before .before .before .if1 .left),
+      c .precedes .ensures,
+      c .before .at-most .ensures,
+      c .before .before
+          .before .before .period-of .ensures,
+    )
 
 pub is-holding-spec : {M : Type 1} → statement M
 is-holding-spec =

@@ -11,7 +11,10 @@ returns-2 : tie.Need-returns-2
 returns-2 c =
     let a = c .before .before .before .before .before .before .before .before .args in
     let i = c .before .before .before .before .before .bases .given .0 .0 in
-    ap (λ p. p .begin) (c .before .period-of .ensures ∙ ap periodOf (read-by (a .permanent .now) i (c .before .before .before .record-size .ensures) (c .before .before .record-at .ensures .0)))
+    ap (λ p. p .begin)
+    (c .before .period-of .ensures
+    ∙ ap periodOf
+    (read-by (a .permanent .now) i (c .before .before .before .record-size .ensures) (c .before .before .record-at .ensures .0)))
     ∙ sym (ap (sinceOf (a .permanent .now)) (c .before .before .before .before .before .bases .given .1))
 
 pub since-of-spec : {M : Type 1} → statement M

@@ -31,7 +31,8 @@ test c = ap (λ b. b || ltb 7 (start (c .before) .args .property)) (c .is-none .
 
 small : (c : tie.Else1) → start (c .before .before) .args .property < 8
 small c =
-    let e : ltb 7 (start (c .before .before) .args .property) ≡ false = or-neither (c .before .is-none .result) _ (c .if1 .left) .1 in
+    let e : ltb 7 (start (c .before .before) .args .property) ≡ false =
+    or-neither (c .before .is-none .result) _ (c .if1 .left) .1 in
     omega tests
 
 returns : tie.Need-returns

@@ -12,7 +12,8 @@ returns c =
     let p2 = p3 .before .before .before .before .before in
     let p1 = p2 .before .before .before .before in
     let room = p1 .before .before .before .before .pre in
-    pasted-on _ _ _ 0 24 (pasted-on _ _ _ 0 8 (p1 .put .ensures) (p2 .put-times .ensures) refl (omega arith)) (p3 .put2 .ensures) refl (omega arith)
+    pasted-on _ _ _ 0 24 (pasted-on _ _ _ 0 8 (p1 .put .ensures) (p2 .put-times .ensures) refl (omega arith))
+    (p3 .put2 .ensures) refl (omega arith)
 
 pub put-head-spec : {M : Type 1} → statement M
 put-head-spec =

@@ -20,21 +20,33 @@ returns : tie.Need-returns
 returns c =
     let a = c .before .before .before .before .before .before .before .before .args in
     c .before .before .put-unknown .ensures
-    ∙ (ap (λ (s : ℕ). pasted (a .«record» .now) (32 + a .n * s) (nilUnknown s)) (c .before .before .before .before .before .stride-of .ensures)
-    ∙ ap (λ (k : ℕ). pasted (a .«record» .now) (32 + a .n * strideOf (a .table .now)) (saidAt (a .table .now) (a .n) k)) (sym (c .before .before .before .before .if1 .taken)))
+    ∙ (ap (λ (s : ℕ). pasted (a .«record» .now) (32 + a .n * s) (nilUnknown s))
+    (c .before .before .before .before .before .stride-of .ensures)
+    ∙ ap (λ (k : ℕ). pasted (a .«record» .now) (32 + a .n * strideOf (a .table .now)) (saidAt (a .table .now) (a .n) k))
+    (sym (c .before .before .before .before .if1 .taken)))
 
 -- the record that was read
-read : (c : tie.After-record-at) → let a = c .before .before .before .before .before .before .args in c .record-at .result .now ≡ recordAt (recordSize (strideOf (a .table .now))) (a .from - 1) (a .table .now)
-read c = let a = c .before .before .before .before .before .before .args in read-by (a .table .now) (a .from - 1) (c .before .record-size .ensures) (c .record-at .ensures .0)
+read : (c : tie.After-record-at)
+    → let a = c .before .before .before .before .before .before .args in
+    c .record-at .result .now ≡ recordAt (recordSize (strideOf (a .table .now))) (a .from - 1) (a .table .now)
+read c = let a = c .before .before .before .before .before .before .args in
+    read-by (a .table .now) (a .from - 1) (c .before .record-size .ensures) (c .record-at .ensures .0)
 
 add-put : tie.Need-add-put
-add-put c = omega (arith, piece-within (c .before .before .before .before .stride-of .result) (c .before .before .before .before .before .before .before .args .n) 8 (c .before .before .before .before .before .before .before .pre .0))
+add-put c =
+    omega (
+      arith,
+      piece-within (c .before .before .before .before .stride-of .result)
+          (c .before .before .before .before .before .before .before .args .n) 8
+          (c .before .before .before .before .before .before .before .pre .0),
+    )
 
 part-put-end : tie.Need-part-put-end
 part-put-end c =
     let s = c .before .before .before .before .before .before .before in
     let a = s .args in
-    let e : length (c .before .record-at .result .now) ≡ recordSize (strideOf (a .table .now)) = ap length (read (c .before)) ∙ size-at (a .table .now) (s .pre .1 .0) (a .from - 1) (omega arith) in
+    let e : length (c .before .record-at .result .now) ≡ recordSize (strideOf (a .table .now)) =
+    ap length (read (c .before)) ∙ size-at (a .table .now) (s .pre .1 .0) (a .from - 1) (omega arith) in
     omega (arith, e, piece-within (c .before .before .before .before .stride-of .result) (a .n) 8 (s .pre .0))
 
 returns-2 : tie.Need-returns-2
@@ -47,16 +59,20 @@ returns-2 c =
     c .before .before .put .ensures
     ∙ (ap (λ (m : ℕ). pasted (a .«record» .now) (32 + a .n * s) (take m (drop (32 + a .n * s) (k .record-at .result .now)))) e
     ∙ (ap (λ (r : List ℕ). pasted (a .«record» .now) (32 + a .n * s) (take s (drop (32 + a .n * s) r))) (read k)
-    ∙ (ap (λ (s : ℕ). pasted (a .«record» .now) (32 + a .n * s) (take s (drop (32 + a .n * s) r))) (k .before .before .before .stride-of .ensures)
-    ∙ ap (pasted (a .«record» .now) (32 + a .n * strideOf (a .table .now))) (said-cut (a .table .now) (a .n) (a .from) (k .before .before .if1 .left)))))
+    ∙ (ap (λ (s : ℕ). pasted (a .«record» .now) (32 + a .n * s) (take s (drop (32 + a .n * s) r)))
+    (k .before .before .before .stride-of .ensures)
+    ∙ ap (pasted (a .«record» .now) (32 + a .n * strideOf (a .table .now)))
+    (said-cut (a .table .now) (a .n) (a .from) (k .before .before .if1 .left)))))
 
 pub put-property-spec : {M : Type 1} → statement M
 put-property-spec =
     tie.close
     (tie.spec
     (λ c κs. search needs)
-    (λ c. omega (arith, piece-within (c .stride-of .result) (c .before .before .before .args .n) 8 (c .before .before .before .pre .0)))
-    (λ c. omega (arith, piece-within (c .stride-of .result) (c .before .before .before .args .n) 8 (c .before .before .before .pre .0)))
+    (λ c. omega
+    (arith, piece-within (c .stride-of .result) (c .before .before .before .args .n) 8 (c .before .before .before .pre .0)))
+    (λ c. omega
+    (arith, piece-within (c .stride-of .result) (c .before .before .before .args .n) 8 (c .before .before .before .pre .0)))
     (λ c κs. search needs)
     (λ c. search needs)
     returns

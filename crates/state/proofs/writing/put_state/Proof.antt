@@ -20,10 +20,15 @@ returns c =
     let p = s .pre in
     let a = s .args in
     let f = propertyFrom (a .permanent .now) (a .temporary .now) (a .start) (a .mentions .marks) (a .passing) in
-    let long = from-length (a .permanent .now) (a .temporary .now) (p .anchor .whole) (p .whole) (a .start) (a .mentions .marks) (a .passing) (p .anchor .below) (p .below) (p .above) in
+    let long =
+    from-length (a .permanent .now) (a .temporary .now) (p .anchor .whole) (p .whole) (a .start) (a .mentions .marks) (a .passing)
+    (p .anchor .below) (p .below) (p .above) in
     let run = run-length f (strideOf (a .permanent .now)) 8 long in
     c .before .before .put-properties .ensures
-    ∙ (ap (λ (d : List ℕ). pasted d 32 (runOf f 8)) (c .before .before .before .before .before .before .put-head .ensures ∙ ap (λ (l : Life). pasted (a .«record» .now) 0 (stateKind ++ (stateTimes (a .instant) l ++ replicate 8 0))) (c .before .before .before .before .before .before .before .life-of-state .ensures))
+    ∙ (ap (λ (d : List ℕ). pasted d 32 (runOf f 8))
+    (c .before .before .before .before .before .before .put-head .ensures
+    ∙ ap (λ (l : Life). pasted (a .«record» .now) 0 (stateKind ++ (stateTimes (a .instant) l ++ replicate 8 0)))
+    (c .before .before .before .before .before .before .before .life-of-state .ensures))
     ∙ whole-pasted (a .«record» .now) _ (runOf f 8) refl (omega (arith, p .sized, run)))
 
 pub put-state-spec : {M : Type 1} → statement M

@@ -17,7 +17,9 @@ returns c =
     let n = p1 .before .before .before .before in
     let room = n .before .before .pre in
     let two = p2 .put322 .ensures ∙ ap (λ (i : Instant). pasted (p1 .put32 .last .0) 12 (bytesOf 4 (i .0))) (n .none .ensures) in
-    pasted-on _ _ _ 8 20 (pasted-on _ _ _ 8 16 (pasted-on _ _ _ 8 12 (p1 .put32 .ensures) two refl (omega arith)) (p3 .put323 .ensures) refl (omega arith)) (p4 .put324 .ensures) refl (omega arith)
+    pasted-on _ _ _ 8 20
+    (pasted-on _ _ _ 8 16 (pasted-on _ _ _ 8 12 (p1 .put32 .ensures) two refl (omega arith)) (p3 .put323 .ensures) refl
+    (omega arith)) (p4 .put324 .ensures) refl (omega arith)
 
 pub put-times-spec : {M : Type 1} → statement M
 put-times-spec =

@@ -14,7 +14,11 @@ returns : tie.Need-returns
 returns c =
     let a = c .before .before .before .before .before .before .before .args in
     let e : a .stride - 0 ≡ a .stride = omega arith in
-    c .before .before .put .ensures ∙ ap (λ (l : List ℕ). pasted (a .«record» .now) (a .at) l) (ap (λ (n : ℕ). take n (1 ∷ 4 ∷ replicate 30 0)) e ∙ unknown-cut (a .stride) (c .before .before .before .before .before .before .before .pre .0) (c .before .before .before .before .before .before .before .pre .1))
+    c .before .before .put .ensures
+    ∙ ap (λ (l : List ℕ). pasted (a .«record» .now) (a .at) l)
+    (ap (λ (n : ℕ). take n (1 ∷ 4 ∷ replicate 30 0)) e
+    ∙ unknown-cut (a .stride) (c .before .before .before .before .before .before .before .pre .0)
+    (c .before .before .before .before .before .before .before .pre .1))
 
 pub put-unknown-spec : {M : Type 1} → statement M
 put-unknown-spec =

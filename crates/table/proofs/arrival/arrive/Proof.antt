@@ -39,17 +39,21 @@ facts c = sound-table Both (T c) (sound c)
 abbrev told : tie.After-check-slice → tie.After-enum-told
 told c = c .before .before .before .before .before .before .before
 
-checked : (c : tie.After-check-slice) → let k = told c in c .check-slice .result ≡ checkSlice (strideOf (T k)) (featureOf (T k)) (sideOf (T k)) (S k)
+checked : (c : tie.After-check-slice)
+    → let k = told c in c .check-slice .result ≡ checkSlice (strideOf (T k)) (featureOf (T k)) (sideOf (T k)) (S k)
 checked c =
     let d = c .before .before .before in
-    checked-told _ _ (c .check-slice .ensures) ∙ (λ i. checkSlice (d .before .before .stride-of .ensures i) (featureOf (T (told c))) (d .side-of .ensures i) (S (told c)))
+    checked-told _ _ (c .check-slice .ensures)
+    ∙ (λ i. checkSlice (d .before .before .stride-of .ensures i) (featureOf (T (told c))) (d .side-of .ensures i) (S (told c)))
 
 -- past it
-sound2 : (c : tie.After-enum-told2) → let k = told (c .before .before) in SoundSlice (strideOf (T k)) (featureOf (T k)) (sideOf (T k)) (S k)
+sound2 : (c : tie.After-enum-told2)
+    → let k = told (c .before .before) in SoundSlice (strideOf (T k)) (featureOf (T k)) (sideOf (T k)) (S k)
 sound2 c = sound-slice _ _ _ _ (sym (checked (c .before .before)) ∙ c .enum-told2 .given .1)
 
 -- it brings a record of the table's size
-record-size : (c : tie.After-enum-told2) → let k = told (c .before .before) in length (take (length (S k) - 16) (drop 16 (S k))) ≡ recordSize (strideOf (T k))
+record-size : (c : tie.After-enum-told2)
+    → let k = told (c .before .before) in length (take (length (S k) - 16) (drop 16 (S k))) ≡ recordSize (strideOf (T k))
 record-size c =
     let k = told (c .before .before) in
     rw (rest-whole 16 (S k)) (length-drop 16 (S k) ∙ omega (arith, sound2 c .size))
@@ -57,14 +61,20 @@ record-size c =
 returns : tie.Need-returns
 returns c =
     let r = c .before in
-    let k = r .before .before in
-    (ap arrivalReply (sym (table-refuses _ _ (r .refusal .given .0 .0) (sym (checked-told _ _ (k .check-table .ensures)) ∙ r .refusal .given .1))), refl)
+    let k = r .before .before in (
+      ap arrivalReply
+          (sym (table-refuses _ _ (r .refusal .given .0 .0) (sym (checked-told _ _ (k .check-table .ensures)) ∙ r .refusal .given .1))),
+      refl,
+    )
 
 returns-2 : tie.Need-returns-2
 returns-2 c =
     let r = c .before in
-    let k = r .before .before in
-    (ap arrivalReply (sym (slice-refuses _ _ (sound (told k)) (r .refusal2 .given .0 .0) (sym (checked k) ∙ r .refusal2 .given .1))), refl)
+    let k = r .before .before in (
+      ap arrivalReply
+          (sym (slice-refuses _ _ (sound (told k)) (r .refusal2 .given .0 .0) (sym (checked k) ∙ r .refusal2 .given .1))),
+      refl,
+    )
 
 file-requires : tie.Need-file-requires
 file-requires c κs =

@@ -11,7 +11,7 @@ use Rattle.numbers.specs.Numbers.{lowerCorrection}
 use Rattle.slice.specs.Record.{correctionOf}
 use Rattle.table.specs.Header.{recordsOf}
 use Rattle.table.proofs.Records.{record-fits, record-is}
-use Rattle.table.proofs.Written.{put-over}
+use Rattle.table.proofs.TableBytes.{put-over}
 use Rattle.table.proofs.Answers.{is-replaced, is-superseded, is-repeat, is-17}
 use Rattle.table.proofs.arrival.correct.Statement.{statement}
 use Rattle.table.proofs.arrival.correct.Tie as tie
@@ -27,7 +27,8 @@ start c = c .before .before .before .before .before .before
 stored : (c : tie.After-correction-of2) → c .before .correction-of .result ≡ correctionOf (held (start c))
 stored c =
     let s = start c in
-    c .before .correction-of .ensures ∙ ap correctionOf (c .before .before .record-at .ensures .0 ∙ record-is _ _ _ (s .pre .0) (s .pre .1))
+    c .before .correction-of .ensures
+    ∙ ap correctionOf (c .before .before .record-at .ensures .0 ∙ record-is _ _ _ (s .pre .0) (s .pre .1))
 
 lower : (c : tie.After-precedes) (b : Bool) → c .precedes .result ≡ b
     → let s = start (c .before) in lowerCorrection (correctionOf (held s)) (correctionOf (s .args .«record» .now)) ≡ b
@@ -36,7 +37,8 @@ lower c b e =
     sym (c .precedes .ensures ∙ (λ i. lowerCorrection (stored k i) (k .correction-of2 .ensures i))) ∙ e
 
 lower2 : (c : tie.After-precedes2) (b : Bool) → c .precedes2 .result ≡ b
-    → let s = start (c .before .before .before) in lowerCorrection (correctionOf (s .args .«record» .now)) (correctionOf (held s)) ≡ b
+    → let s = start (c .before .before .before) in
+    lowerCorrection (correctionOf (s .args .«record» .now)) (correctionOf (held s)) ≡ b
 lower2 c b e =
     let k = c .before .before .before in
     sym (c .precedes2 .ensures ∙ (λ i. lowerCorrection (k .correction-of2 .ensures i) (stored k i))) ∙ e
@@ -46,7 +48,8 @@ alike : (c : tie.After-same) (b : Bool) → c .same .result ≡ b
     → let s = start (c .before .before .before .before .before .before .before) in sameBytes (s .args .«record» .now) (held s) ≡ b
 alike c b e =
     let s = start (c .before .before .before .before .before .before .before) in
-    ap (sameBytes (s .args .«record» .now)) (sym (c .before .record-at2 .ensures .0 ∙ record-is _ _ _ (s .pre .0) (s .pre .1))) ∙ sym (c .same .ensures) ∙ e
+    ap (sameBytes (s .args .«record» .now)) (sym (c .before .record-at2 .ensures .0 ∙ record-is _ _ _ (s .pre .0) (s .pre .1)))
+    ∙ sym (c .same .ensures) ∙ e
 
 fits : (c : tie.Then1) → let a = start (c .before .before) .args in 32 + a .at * a .size + a .size ≤ length (a .table .now)
 fits c = let s = start (c .before .before) in record-fits (s .args .size) (s .args .table .now) (s .args .at) (omega arith)
@@ -69,14 +72,20 @@ returns-2 c =
 returns-3 : tie.Need-returns-3
 returns-3 c =
     let m = c .before .before .before .before in
-    let e = m .before .before in
-    (sym (is-repeat _ _ (lower (e .before) _ (e .if1 .left)) (lower2 (m .before) _ (m .if2 .left)) (alike (c .before) _ (c .if3 .taken))), refl)
+    let e = m .before .before in (
+      sym (is-repeat _ _ (lower (e .before) _ (e .if1 .left)) (lower2 (m .before) _ (m .if2 .left))
+          (alike (c .before) _ (c .if3 .taken))),
+      refl,
+    )
 
 returns-4 : tie.Need-returns-4
 returns-4 c =
     let m = c .before .before .before .before in
-    let e = m .before .before in
-    (sym (is-17 _ _ (lower (e .before) _ (e .if1 .left)) (lower2 (m .before) _ (m .if2 .left)) (alike (c .before) _ (c .if3 .left))), refl)
+    let e = m .before .before in (
+      sym (is-17 _ _ (lower (e .before) _ (e .if1 .left)) (lower2 (m .before) _ (m .if2 .left))
+          (alike (c .before) _ (c .if3 .left))),
+      refl,
+    )
 
 pub correct-spec : {M : Type 1} → statement M
 correct-spec =

@@ -33,7 +33,8 @@ Rs c = recordsOf (start c .args .size) (T c)
 -- the place that was come to
 place : (c : tie.After-is-held) → c .before .before .place-of .result ≡ placeFor (keyOf (R c)) (Rs c)
 place c =
-    c .before .before .place-of .ensures .0 ∙ ap (λ (k : Key). placeFor k (Rs c)) (c .before .before .before .before .key-of .ensures)
+    c .before .before .place-of .ensures .0
+    ∙ ap (λ (k : Key). placeFor k (Rs c)) (c .before .before .before .before .key-of .ensures)
 
 told : (c : tie.After-is-held) (b : Bool) → c .is-held .result ≡ b → holds (keyOf (R c)) (placeFor (keyOf (R c)) (Rs c)) (Rs c) ≡ b
 told c b e =
@@ -52,15 +53,18 @@ returns c =
     let t = x .before .before in
     let k = t .before in
     let held = told k _ (t .if1 .taken) in (
-      x .correct .ensures .0 ∙ ap (λ (i : ℕ). answerTo (R k) (getD (Rs k) i [])) (place k) ∙ sym (filing-held _ _ _ _ (held-stored _ _ held)),
-      x .correct .ensures .1 ∙ ap (changed (x .correct .result) (T k)) (ap (λ (i : ℕ). replacedAt i (R k) (Rs k)) (place k) ∙ sym (held-filed _ _ held)),
+      x .correct .ensures .0 ∙ ap (λ (i : ℕ). answerTo (R k) (getD (Rs k) i [])) (place k)
+          ∙ sym (filing-held _ _ _ _ (held-stored _ _ held)),
+      x .correct .ensures .1
+          ∙ ap (changed (x .correct .result) (T k)) (ap (λ (i : ℕ). replacedAt i (R k) (Rs k)) (place k) ∙ sym (held-filed _ _ held)),
     )
 
 returns-2 : tie.Need-returns-2
 returns-2 c =
     let e = c .before .before .before in
     let k = e .before in
-    let full : length (Rs k) ≡ roomOf (start k .args .size) (T k) = omega (arith, records-length (start k .args .size) (T k), c .before .room-of .ensures, c .if2 .taken) in
+    let full : length (Rs k) ≡ roomOf (start k .args .size) (T k) =
+    omega (arith, records-length (start k .args .size) (T k), c .before .room-of .ensures, c .if2 .taken) in
     (sym (filing-full _ _ _ (not-stored _ _ (start k .pre .0 .rising) (told k _ (e .if1 .left))) full), refl)
 
 returns-3 : tie.Need-returns-3
@@ -70,9 +74,12 @@ returns-3 c =
     let e = f .before .before .before in
     let k = e .before in
     let new = told k _ (e .if1 .left) in
-    let free : length (Rs k) ≡ roomOf (start k .args .size) (T k) → ⊥ = λ q. f .if2 .left (omega (arith, records-length (start k .args .size) (T k), f .before .room-of .ensures)) in (
+    let free : length (Rs k) ≡ roomOf (start k .args .size) (T k) → ⊥ =
+    λ q. f .if2 .left (omega (arith, records-length (start k .args .size) (T k), f .before .room-of .ensures)) in (
       sym (filing-new _ _ _ (not-stored _ _ (start k .pre .0 .rising) new) free),
-      x .insert .ensures ∙ ap (written (T k)) (ap (λ (i : ℕ). insertedAt i (R k) (Rs k)) (place k) ∙ sym (new-filed _ _ (start k .pre .0 .rising) new)),
+      x .insert .ensures
+          ∙ ap (written (T k))
+          (ap (λ (i : ℕ). insertedAt i (R k) (Rs k)) (place k) ∙ sym (new-filed _ _ (start k .pre .0 .rising) new)),
     )
 
 pub file-spec : {M : Type 1} → statement M

@@ -9,7 +9,7 @@ use lib.ListN.{length}
 use borrow.Author.Needs.{needs}
 use Rattle.octets.specs.Writing.{pasted, opened}
 use Rattle.table.proofs.Records.{room-most, record-fits}
-use Rattle.table.proofs.Written.{put-in}
+use Rattle.table.proofs.TableBytes.{put-in}
 use Rattle.table.proofs.arrival.insert.Statement.{statement}
 use Rattle.table.proofs.arrival.insert.Tie as tie
 
@@ -35,7 +35,8 @@ returns c =
     let a = s .args in
     p .put .ensures
     ∙ ap (λ (l : List ℕ). pasted l (32 + a .at * a .size) (a .«record» .now))
-    (o .open-gap .ensures ∙ ap (λ (l : List ℕ). opened l (32 + a .at * a .size) (32 + a .count * a .size) (a .size)) (q .put16 .ensures))
+    (o .open-gap .ensures
+    ∙ ap (λ (l : List ℕ). opened l (32 + a .at * a .size) (32 + a .count * a .size) (a .size)) (q .put16 .ensures))
     ∙ put-in _ _ _ _ _ (s .pre .3) (s .pre .0) (s .pre .1) (s .pre .2)
 
 pub insert-spec : {M : Type 1} → statement M

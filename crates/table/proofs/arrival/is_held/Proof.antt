@@ -19,7 +19,11 @@ returns c =
     let a = s .args in
     let inside : a .at < length (recordsOf (a .size) (a .table .now)) = omega (arith, records-length (a .size) (a .table .now)) in
     rw (lt-ltb _ _ inside)
-    (c .is .ensures ∙ ap (sameKey (a .key)) (c .before .key-of .ensures ∙ ap keyOf (c .before .before .record-at .ensures .0 ∙ record-is (a .size) (a .table .now) (a .at) (omega arith) (omega arith))))
+    (c .is .ensures
+    ∙ ap (sameKey (a .key))
+    (c .before .key-of .ensures
+    ∙ ap keyOf
+    (c .before .before .record-at .ensures .0 ∙ record-is (a .size) (a .table .now) (a .at) (omega arith) (omega arith))))
 
 returns-2 : tie.Need-returns-2
 unfolding holds

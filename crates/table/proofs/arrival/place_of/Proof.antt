@@ -13,7 +13,8 @@ use Rattle.table.proofs.arrival.place_of.Statement.{statement}
 use Rattle.table.proofs.arrival.place_of.Tie as tie
 
 abbrev Inv-loop : tie.InvT-loop
-Inv-loop table size count key low₀ high₀ low high = (low ≤ placeFor key (recordsOf size table)) × (placeFor key (recordsOf size table) ≤ high) × (high ≤ count)
+Inv-loop table size count key low₀ high₀ low high =
+    (low ≤ placeFor key (recordsOf size table)) × (placeFor key (recordsOf size table) ≤ high) × (high ≤ count)
 
 abbrev μ-loop : tie.MeasureT-loop
 μ-loop table size count key low₀ high₀ low high = high - low
@@ -24,26 +25,35 @@ start l = l .before .before
 abbrev middle : tie.At-loop Inv-loop μ-loop → ℕ
 middle l = l .loop .low + (l .loop .high - l .loop .low) / 2
 
-roomy : (l : tie.At-loop Inv-loop μ-loop) → countOf (start l .args .table .now) ≤ roomOf (start l .args .size) (start l .args .table .now)
+roomy : (l : tie.At-loop Inv-loop μ-loop)
+    → countOf (start l .args .table .now) ≤ roomOf (start l .args .size) (start l .args .table .now)
 roomy l = omega arith
 
 -- the record in the middle, against the key
 told : (c : tie.After-precedes Inv-loop μ-loop) (b : Bool) → c .precedes .result ≡ b
-    → let l = c .before .before .before .before in let a = start l .args in keyLess (keyOf (recordAt (a .size) (middle l) (a .table .now))) (a .key) ≡ b
+    → let l = c .before .before .before .before in let a = start l .args in
+    keyLess (keyOf (recordAt (a .size) (middle l) (a .table .now))) (a .key) ≡ b
 told c b e =
     let a = start (c .before .before .before .before) .args in
-    ap (λ (k : Key). keyLess k (a .key)) (sym (c .before .key-of .ensures ∙ ap keyOf (c .before .before .record-at .ensures .0))) ∙ sym (c .precedes .ensures) ∙ e
+    ap (λ (k : Key). keyLess k (a .key)) (sym (c .before .key-of .ensures ∙ ap keyOf (c .before .before .record-at .ensures .0)))
+    ∙ sym (c .precedes .ensures) ∙ e
 
 loop-holds : tie.Need-loop-holds Inv-loop μ-loop
-loop-holds c =
-    (omega arith, omega (arith, place-at-most (c .before .args .size) (c .before .args .table .now) (c .before .args .key)), omega arith)
+loop-holds c = (
+  omega arith,
+  omega
+      (arith, place-at-most (c .before .args .size) (c .before .args .table .now) (c .before .args .key)),
+  omega arith,
+)
 
 loop-again : tie.Need-loop-again Inv-loop μ-loop
 loop-again c =
     let k = c .before in
     let l = k .before .before .before .before in
     let a = start l .args in
-    let past = place-past (a .size) (a .table .now) (a .key) (roomy l) (middle l) (omega arith) (start l .pre .1 .rising) (told k _ (c .if1 .taken)) in
+    let past =
+    place-past (a .size) (a .table .now) (a .key) (roomy l) (middle l) (omega arith) (start l .pre .1 .rising)
+    (told k _ (c .if1 .taken)) in
     (omega (arith, past), omega arith, omega arith)
 
 loop-again-2 : tie.Need-loop-again-2 Inv-loop μ-loop

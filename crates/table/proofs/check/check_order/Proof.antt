@@ -42,11 +42,13 @@ returns c = ap checkedReply (sym (rw (lt-ltb _ _ (over c))))
 
 returns-2 : tie.Need-returns-2
 unfolding checkOrder orderTests
-returns-2 c = ap checkedReply (sym (rw (le-ltb _ _ (roomy (c .before .before)), sym (order-is (c .before)) ∙ not-true _ (c .if2 .taken))))
+returns-2 c =
+    ap checkedReply (sym (rw (le-ltb _ _ (roomy (c .before .before)), sym (order-is (c .before)) ∙ not-true _ (c .if2 .taken))))
 
 returns-3 : tie.Need-returns-3
 unfolding checkOrder orderTests
-returns-3 c = ap checkedReply (sym (rw (le-ltb _ _ (roomy (c .before .before)), sym (order-is (c .before)) ∙ not-false _ (c .if2 .left))))
+returns-3 c =
+    ap checkedReply (sym (rw (le-ltb _ _ (roomy (c .before .before)), sym (order-is (c .before)) ∙ not-false _ (c .if2 .left))))
 
 pub check-order-spec : {M : Type 1} → statement M
 check-order-spec =

@@ -34,7 +34,8 @@ named : (c : tie.After-takes-side) → let s = s1 (c .before .before .before) in
     (c .before .is-lettered .result && c .takes-side .result) ≡ (lettered (T s) && takes (s .args .sides) (sideOf (T s)))
 named c =
     let s = s1 (c .before .before .before) in
-    (λ i. c .before .is-lettered .ensures i && (c .takes-side .ensures ∙ ap (takes (s .args .sides)) (c .before .before .side-of .ensures)) i)
+    (λ i. c .before .is-lettered .ensures i
+    && (c .takes-side .ensures ∙ ap (takes (s .args .sides)) (c .before .before .side-of .ensures)) i)
 
 abbrev s2 : tie.Else2 → tie.Start
 s2 c = s1 (c .before .before .before .before)
@@ -85,12 +86,15 @@ search-is : (c : tie.After-first-failing) → let k = c .before .before in
 search-is c =
     let k = c .before .before in
     let side = k .before .before .before .before .before .before .before .before .before .before .before .side-of .ensures in
-    c .first-failing .ensures ∙ (λ i. failing (k .before .before .before .stride-of .ensures i) (side i) (recordsOf (sized k i) (T (s5 k))))
+    c .first-failing .ensures
+    ∙ (λ i. failing (k .before .before .before .stride-of .ensures i) (side i) (recordsOf (sized k i) (T (s5 k))))
 
-past6 : (c : tie.After-enum-told) → let k = c .before .before .before .before in Answer (s5 k) ≡ from7 (s5 k .args .sides) (T (s5 k))
+past6 : (c : tie.After-enum-told)
+    → let k = c .before .before .before .before in Answer (s5 k) ≡ from7 (s5 k .args .sides) (T (s5 k))
 past6 c = let f = c .before .before in past5 (f .before) ∙ rw (failing-nowhere _ _ _ (sym (search-is f) ∙ c .enum-told .given .1))
 
-order-is : (c : tie.After-is-in-order) → let k = c .before .before .before .before .before in c .is-in-order .result ≡ inOrder (recordsOf (Size k) (T (s5 k)))
+order-is : (c : tie.After-is-in-order)
+    → let k = c .before .before .before .before .before in c .is-in-order .result ≡ inOrder (recordsOf (Size k) (T (s5 k)))
 order-is c =
     let k = c .before .before .before .before .before in
     c .is-in-order .ensures ∙ ap (λ (n : ℕ). inOrder (recordsOf n (T (s5 k)))) (sized k)
@@ -99,10 +103,12 @@ returns : tie.Need-returns
 returns c = ap checkedReply (sym (table-is _ _ ∙ rw (lt-ltb _ _ (c .if1 .taken))))
 
 returns-2 : tie.Need-returns-2
-returns-2 c = ap checkedReply (sym (past1 (c .before .before .before .before) ∙ rw (sym (named (c .before)) ∙ not-true _ (c .if2 .taken))))
+returns-2 c =
+    ap checkedReply (sym (past1 (c .before .before .before .before) ∙ rw (sym (named (c .before)) ∙ not-true _ (c .if2 .taken))))
 
 returns-3 : tie.Need-returns-3
-returns-3 c = ap checkedReply (sym (past2 (c .before .before) ∙ rw (ne-eqb _ _ (λ e. c .if3 .taken (c .before .be16 .ensures ∙ e)))))
+returns-3 c =
+    ap checkedReply (sym (past2 (c .before .before) ∙ rw (ne-eqb _ _ (λ e. c .if3 .taken (c .before .be16 .ensures ∙ e)))))
 
 returns-4 : tie.Need-returns-4
 returns-4 c = ap checkedReply (sym (past3 (c .before .before) ∙ rw (sym (c .before .blank8 .ensures) ∙ not-true _ (c .if4 .taken))))
@@ -115,7 +121,8 @@ returns-5 c =
 returns-6 : tie.Need-returns-6
 returns-6 c =
     let f = c .before .before in
-    ap checkedReply (sym (past5 (f .before) ∙ rw (failing-at _ _ _ (c .enum-told2 .given .0 .0) (sym (search-is f) ∙ c .enum-told2 .given .1))))
+    ap checkedReply
+    (sym (past5 (f .before) ∙ rw (failing-at _ _ _ (c .enum-told2 .given .0 .0) (sym (search-is f) ∙ c .enum-told2 .given .1))))
 
 returns-7 : tie.Need-returns-7
 returns-7 c =

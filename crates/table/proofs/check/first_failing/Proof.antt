@@ -13,7 +13,8 @@ use Rattle.table.proofs.check.first_failing.Statement.{statement}
 use Rattle.table.proofs.check.first_failing.Tie as tie
 
 abbrev Inv-loop : tie.InvT-loop
-Inv-loop table stride size count side i₀ i = (i ≤ count) × (failing stride side (recordsOf size table) ≡ failingFrom size table stride side i)
+Inv-loop table stride size count side i₀ i =
+    (i ≤ count) × (failing stride side (recordsOf size table) ≡ failingFrom size table stride side i)
 
 abbrev μ-loop : tie.MeasureT-loop
 μ-loop table stride size count side i₀ i = count - i
@@ -21,12 +22,14 @@ abbrev μ-loop : tie.MeasureT-loop
 abbrev start : tie.At-loop Inv-loop μ-loop → tie.Start Inv-loop μ-loop
 start l = l .before .before
 
-roomy : (l : tie.At-loop Inv-loop μ-loop) → countOf (start l .args .table .now) ≤ roomOf (start l .args .size) (start l .args .table .now)
+roomy : (l : tie.At-loop Inv-loop μ-loop)
+    → countOf (start l .args .table .now) ≤ roomOf (start l .args .size) (start l .args .table .now)
 roomy l = omega arith
 
 -- the record that was checked, and what was told of it
 told : (c : tie.After-check-record Inv-loop μ-loop) (r : Checked) → c .check-record .result ≡ r
-    → let l = c .before .before .before in let a = start l .args in fails (a .stride) (a .side) (recordAt (a .size) (l .loop .i) (a .table .now)) ≡ isRefused r
+    → let l = c .before .before .before in let a = start l .args in
+    fails (a .stride) (a .side) (recordAt (a .size) (l .loop .i) (a .table .now)) ≡ isRefused r
 unfolding fails
 told c r e = ap isRefused (rw (c .before .record-at .ensures .0) at (sym (checked-told _ _ (c .check-record .ensures))) ∙ e)
 

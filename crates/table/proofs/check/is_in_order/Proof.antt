@@ -22,7 +22,8 @@ abbrev μ-loop : tie.MeasureT-loop
 abbrev start : tie.At-loop Inv-loop μ-loop → tie.Start Inv-loop μ-loop
 start l = l .before .before .before .before .before
 
-roomy : (l : tie.At-loop Inv-loop μ-loop) → countOf (start l .args .table .now) ≤ roomOf (start l .args .size) (start l .args .table .now)
+roomy : (l : tie.At-loop Inv-loop μ-loop)
+    → countOf (start l .args .table .now) ≤ roomOf (start l .args .size) (start l .args .table .now)
 roomy l = omega arith
 
 -- the key that was read is that of record i
@@ -37,22 +38,28 @@ returns c =
 loop-holds : tie.Need-loop-holds Inv-loop μ-loop
 loop-holds c =
     let s = c .before .before .before .before in
-    let key = c .key-of .ensures ∙ ap keyOf (c .before .record-at .ensures .0) in
-    (omega arith, order-start _ _ (omega arith) (omega arith) ∙ ap (λ (k : Key). risesOn (s .args .size) (s .args .table .now) k 1) (sym key))
+    let key = c .key-of .ensures ∙ ap keyOf (c .before .record-at .ensures .0) in (
+      omega arith,
+      order-start _ _ (omega arith) (omega arith)
+          ∙ ap (λ (k : Key). risesOn (s .args .size) (s .args .table .now) k 1) (sym key),
+    )
 
 returns-2 : tie.Need-returns-2 Inv-loop μ-loop
 returns-2 c =
     let k = c .before .before in
     let l = k .before .before .before in
     let a = start l .args in
-    sym (l .loop .inv .1 ∙ order-off _ _ (roomy l) _ (l .loop .i) (omega arith) (ap (keyLess (l .loop .last)) (sym (read k)) ∙ sym (c .before .precedes .ensures) ∙ not-true _ (c .if2 .taken)))
+    sym (l .loop .inv .1
+    ∙ order-off _ _ (roomy l) _ (l .loop .i) (omega arith)
+    (ap (keyLess (l .loop .last)) (sym (read k)) ∙ sym (c .before .precedes .ensures) ∙ not-true _ (c .if2 .taken)))
 
 loop-again : tie.Need-loop-again Inv-loop μ-loop
 loop-again c =
     let k = c .before .before in
     let l = k .before .before .before in
     let a = start l .args in
-    let on = order-on _ _ (roomy l) _ (l .loop .i) (omega arith) (ap (keyLess (l .loop .last)) (sym (read k)) ∙ sym (c .before .precedes .ensures) ∙ not-false _ (c .if2 .left)) in
+    let on = order-on _ _ (roomy l) _ (l .loop .i) (omega arith)
+    (ap (keyLess (l .loop .last)) (sym (read k)) ∙ sym (c .before .precedes .ensures) ∙ not-false _ (c .if2 .left)) in
     (omega arith, l .loop .inv .1 ∙ on ∙ ap (λ (x : Key). risesOn (a .size) (a .table .now) x (l .loop .i + 1)) (sym (read k)))
 
 returns-3 : tie.Need-returns-3 Inv-loop μ-loop

@@ -2,7 +2,7 @@
 use Prim.Native.Nat.{ℕ, _<_}
 use native.Mathlib.Omega.{arith}
 use denote.Ref.{now}
-use Rattle.text.proofs.Said.{then, wrote-none, wrote-most, digits-none, digits-one, digits-more}
+use Rattle.text.proofs.TextWriting.{then, wrote-none, wrote-most, digits-none, digits-one, digits-more}
 use borrow.Author.Needs.{needs}
 use borrow.Fn.Kinds.{In}
 use borrow.Fn.PlainCycle.{Measures, is, falls, and}
@@ -55,7 +55,8 @@ put-digits-returns-3 t c =
     let p = c .before .before in
     let q = p .before .before .before .before .before in
     let a = q .before .before .before .before .before .args in
-    rw (digits-more (a .k) (a .n) (omega arith) (omega arith)) (wrote-most (omega arith) (then (omega arith) (q .put-digits .ensures) (p .put-letters2 .ensures)))
+    rw (digits-more (a .k) (a .n) (omega arith) (omega arith))
+    (wrote-most (omega arith) (then (omega arith) (q .put-digits .ensures) (p .put-letters2 .ensures)))
 
 pub +put-digits-spec : {M : Type 1} → statement M
 +put-digits-spec = close μ-put-digits λ t. put-digits-lts.spec (

@@ -5,7 +5,7 @@ use Rattle.slice.specs.Record.{recordSize}
 use Rattle.table.specs.Header.{countOf, strideOf}
 use Rattle.table.proofs.Records.{room-most}
 use Rattle.text.specs.Listing.{decimalOf}
-use Rattle.text.proofs.Said.{then, wrote-most}
+use Rattle.text.proofs.TextWriting.{then, wrote-most}
 use borrow.Author.Needs.{needs}
 use Rattle.text.proofs.lines.put_derived.Statement.{statement}
 use Rattle.text.proofs.lines.put_derived.Tie as tie
@@ -31,7 +31,10 @@ returns c =
     let w = d .before .before .before .before .before in
     let s = start d in
     let count = rw (d .before .count-of .ensures) at (d .put-digits .ensures) in
-    wrote-most (omega (arith, few s)) (then (omega (arith, few s)) (w .put-letters .ensures) (then {a = decimalOf (countOf (s .args .table .now))} (omega (arith, few s)) count (then (omega (arith, few s)) (n .put-letters2 .ensures) (l .put-lines .ensures))))
+    wrote-most (omega (arith, few s))
+    (then (omega (arith, few s)) (w .put-letters .ensures)
+    (then {a = decimalOf (countOf (s .args .table .now))} (omega (arith, few s)) count
+    (then (omega (arith, few s)) (n .put-letters2 .ensures) (l .put-lines .ensures))))
 
 pub put-derived-spec : {M : Type 1} → statement M
 put-derived-spec =

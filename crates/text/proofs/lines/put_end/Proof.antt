@@ -2,7 +2,7 @@
 use mathlib.Core.Path.{sym, _∙_}
 use native.Mathlib.Omega.{arith}
 use Rattle.text.specs.Listing.{decimalOf, endOf}
-use Rattle.text.proofs.Said.{wrote-most}
+use Rattle.text.proofs.TextWriting.{wrote-most}
 use borrow.Author.Needs.{needs}
 use Rattle.text.proofs.lines.put_end.Statement.{statement}
 use Rattle.text.proofs.lines.put_end.Tie as tie

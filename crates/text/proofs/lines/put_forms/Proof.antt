@@ -10,7 +10,7 @@ use Rattle.property.specs.Eight.{propertiesOf}
 use Rattle.slice.specs.Record.{partsOf}
 use Rattle.text.specs.Listing.{formOf}
 use Rattle.text.specs.Wrote.{Wrote}
-use Rattle.text.proofs.Said.{then, wrote-none, forms-more}
+use Rattle.text.proofs.TextWriting.{then, wrote-none, forms-more}
 use borrow.Author.Needs.{needs}
 use Rattle.text.proofs.lines.put_forms.Statement.{statement}
 use Rattle.text.proofs.lines.put_forms.Tie as tie
@@ -23,7 +23,8 @@ abbrev μ-loop : tie.MeasureT-loop
 μ-loop s₀ at «record» stride end₀ i₀ s end i = 8 - i
 
 -- a property's place is small
-place : (c : tie.After-put-letters-arg Inv-loop μ-loop) → let l = c .before .before in l .loop .i * l .before .before .before .args .stride ≤ 32768
+place : (c : tie.After-put-letters-arg Inv-loop μ-loop)
+    → let l = c .before .before in l .loop .i * l .before .before .before .args .stride ≤ 32768
 place c =
     let l = c .before .before in
     let a = l .before .before .before in
@@ -35,8 +36,12 @@ loop-again c =
     let b = p .before .before in
     let l = b .before .before .before in
     let a = l .before .before .before in
-    let form = rw (b .byte .ensures) at (p .put-letters .ensures) in
-    (omega arith, omega arith, rw (forms-more (a .args .stride) (a .args .«record» .now) (l .loop .i) (a .pre .1 .0) (omega arith)) (then (omega arith) (l .loop .inv .2) form))
+    let form = rw (b .byte .ensures) at (p .put-letters .ensures) in (
+      omega arith,
+      omega arith,
+      rw (forms-more (a .args .stride) (a .args .«record» .now) (l .loop .i) (a .pre .1 .0) (omega arith))
+          (then (omega arith) (l .loop .inv .2) form),
+    )
 
 returns : tie.Need-returns Inv-loop μ-loop
 unfolding propertiesOf

@@ -1,6 +1,6 @@
 -- `text::lines::put_line` meets its contract. Assumes nothing.
 use native.Mathlib.Omega.{arith}
-use Rattle.text.proofs.Said.{then, line-pieces}
+use Rattle.text.proofs.TextWriting.{then, line-pieces}
 use borrow.Author.Needs.{needs}
 use Rattle.text.proofs.lines.put_line.Statement.{statement}
 use Rattle.text.proofs.lines.put_line.Tie as tie
@@ -15,7 +15,8 @@ returns c =
     let a = k .before .before .before .args in
     let number = rw (k .key-of .ensures) at (n .put-number .ensures) in
     let period = rw (q .before .period-of .ensures) at (q .put-period .ensures) in
-    rw (line-pieces (a .stride) (a .«record» .now)) (then (omega arith) number (then (omega arith) period (then (omega arith) (f .put-forms .ensures) (p .put-letters .ensures))))
+    rw (line-pieces (a .stride) (a .«record» .now))
+    (then (omega arith) number (then (omega arith) period (then (omega arith) (f .put-forms .ensures) (p .put-letters .ensures))))
 
 pub put-line-spec : {M : Type 1} → statement M
 put-line-spec =

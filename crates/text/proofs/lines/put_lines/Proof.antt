@@ -12,7 +12,7 @@ use Rattle.table.proofs.Records.{records-length, record-is}
 use Rattle.state.proofs.Walks.{read-by}
 use Rattle.text.specs.Listing.{lineOf}
 use Rattle.text.specs.Wrote.{Wrote}
-use Rattle.text.proofs.Said.{then, wrote-none, lines-more}
+use Rattle.text.proofs.TextWriting.{then, wrote-none, lines-more}
 use borrow.Author.Needs.{needs}
 use Rattle.text.proofs.lines.put_lines.Statement.{statement}
 use Rattle.text.proofs.lines.put_lines.Tie as tie
@@ -22,7 +22,8 @@ records t = recordsOf (recordSize (strideOf t)) t
 
 abbrev Inv-loop : tie.InvT-loop
 Inv-loop s₀ at table stride size count end₀ i₀ s end i =
-    (i ≤ count) × (length s ≡ length s₀) × Wrote (42 * i) s₀ at (joined (map (lineOf (strideOf table)) (take i (records table)))) s end
+    (i ≤ count) × (length s ≡ length s₀)
+    × Wrote (42 * i) s₀ at (joined (map (lineOf (strideOf table)) (take i (records table)))) s end
 
 abbrev μ-loop : tie.MeasureT-loop
 μ-loop s₀ at table stride size count end₀ i₀ s end i = count - i
@@ -46,7 +47,8 @@ more r = omega (arith, looped r .before .count-of .ensures, r .before .before .l
 room : (r : tie.After-record-at Inv-loop μ-loop) → looped r .loop .end + 42 ≤ length (looped r .loop .s)
 room r = let w = looped r .loop .inv in omega (arith, more r, w .1, w .2 .next, w .2 .few, start (first r) .pre .1)
 
-read : (r : tie.After-record-at Inv-loop μ-loop) → r .record-at .result .now ≡ getD (records (table (first r))) (looped r .loop .i) []
+read : (r : tie.After-record-at Inv-loop μ-loop)
+    → r .record-at .result .now ≡ getD (records (table (first r))) (looped r .loop .i) []
 read r =
     let t = table (first r) in
     read-by t (looped r .loop .i) (looped r .before .before .record-size .ensures) (r .record-at .ensures .0)
@@ -58,10 +60,16 @@ loop-again c =
     let r = p .before in
     let l = looped r .loop in
     let t = table (first r) in
-    let line : lineOf (first r .stride-of .result) (r .record-at .result .now) ≡ lineOf (strideOf t) (getD (records t) (l .i) []) = λ j. lineOf (first r .stride-of .ensures j) (read r j) in
+    let line : lineOf (first r .stride-of .result) (r .record-at .result .now) ≡ lineOf (strideOf t) (getD (records t) (l .i) []) =
+    λ j. lineOf (first r .stride-of .ensures j) (read r j) in
     let k : 42 * l .i + 42 ≡ 42 * (l .i + 1) = omega arith in
-    let w = then (omega (arith, more r, start (first r) .pre .1)) (l .inv .2) (rw line at (p .put-line .ensures)) in
-    (omega arith, omega arith, rw (lines-more (lineOf (strideOf t)) (records t) (l .i) (omega (arith, more r, records-length (recordSize (strideOf t)) t)), ← k) w)
+    let w = then (omega (arith, more r, start (first r) .pre .1)) (l .inv .2) (rw line at (p .put-line .ensures)) in (
+      omega arith,
+      omega arith,
+      rw
+          (lines-more (lineOf (strideOf t)) (records t) (l .i) (omega (arith, more r, records-length (recordSize (strideOf t)) t)), ← k)
+          w,
+    )
 
 returns : tie.Need-returns Inv-loop μ-loop
 returns c =

@@ -1,6 +1,6 @@
 -- `text::lines::put_period` meets its contract. Assumes nothing.
 use native.Mathlib.Omega.{arith}
-use Rattle.text.proofs.Said.{then}
+use Rattle.text.proofs.TextWriting.{then}
 use borrow.Author.Needs.{needs}
 use Rattle.text.proofs.lines.put_period.Statement.{statement}
 use Rattle.text.proofs.lines.put_period.Tie as tie

@@ -4,7 +4,7 @@ use mathlib.Core.Path.{_≡_, ap, _∙_}
 use native.Mathlib.Omega.{arith}
 use lib.ListN.{take}
 use Rattle.text.specs.Listing.{listingReply}
-use Rattle.text.proofs.Said.{wrote-front}
+use Rattle.text.proofs.TextWriting.{wrote-front}
 use borrow.Author.Needs.{needs}
 use Rattle.text.proofs.listing.list.Statement.{statement}
 use Rattle.text.proofs.listing.list.Tie as tie

@@ -17,7 +17,9 @@ use Rattle.table.specs.Header.{countOf, roomOf, recordsOf, counting, wri
 use Rattle.table.proofs.Records.{room-fits, record-fits}
 
 regroup : (h a r m d : List ℕ) → (h ++ a) ++ (r ++ (m ++ d)) ≡ h ++ ((a ++ (r ++ m)) ++ d)
-regroup h a r m d = append-assoc h a (r ++ (m ++ d)) ∙ ap (λ (l : List ℕ). h ++ l) (sym (append-assoc a (r ++ m) d ∙ ap (λ (l : List ℕ). a ++ l) (append-assoc r m d)))
+regroup h a r m d =
+    append-assoc h a (r ++ (m ++ d))
+    ∙ ap (λ (l : List ℕ). h ++ l) (sym (append-assoc a (r ++ m) d ∙ ap (λ (l : List ℕ). a ++ l) (append-assoc r m d)))
 
 -- ---- the header
 pub counting-length : (n : ℕ) (t : List ℕ) → 32 ≤ length t → length (counting n t) ≡ 32
@@ -38,28 +40,49 @@ counting-same t h small =
     let high : countOf t / 256 % 256 ≡ byteOf t 6 = omega (arith, small 6, small 7) in
     let low : countOf t % 256 ≡ byteOf t 7 = omega (arith, small 6, small 7) in
     rw (high, low)
-    (sym (take-add 6 26 t ∙ ap (λ (l : List ℕ). take 6 t ++ take 26 l) (drop-cons t 6 0 (omega arith) ∙ ap (λ (l : List ℕ). byteOf t 6 ∷ l) (drop-cons t 7 0 (omega arith)))))
+    (sym (take-add 6 26 t
+    ∙ ap (λ (l : List ℕ). take 6 t ++ take 26 l)
+    (drop-cons t 6 0 (omega arith) ∙ ap (λ (l : List ℕ). byteOf t 6 ∷ l) (drop-cons t 7 0 (omega arith)))))
 
 -- ---- records put in and replaced, among at + m of them
 module _ (size at m : ℕ) (b r : List ℕ) where
-  pub joined-inserted : joined (insertedAt at r (pieces size (at + m) b)) ≡ take (at * size) b ++ (r ++ take (m * size) (drop (at * size) b))
+  pub joined-inserted : joined (insertedAt at r (pieces size (at + m) b)) ≡ take (at * size) b
+      ++ (r ++ take (m * size) (drop (at * size) b))
   joined-inserted =
       let e : at + m - at ≡ m = omega arith in
       joined-append size (take at (pieces size (at + m) b)) (r ∷ drop at (pieces size (at + m) b))
-      ∙ rw (take-pieces size at (at + m) b (omega arith), drop-pieces size at (at + m) b (omega arith), e, joined-pieces size at b, joined-pieces size m (drop (at * size) b))
+      ∙ rw (
+        take-pieces size at (at + m) b (omega arith),
+        drop-pieces size at (at + m) b
+            (omega arith),
+        e,
+        joined-pieces size at b,
+        joined-pieces size m (drop (at * size) b),
+      )
 
-  pub joined-replaced : joined (replacedAt at r (pieces size (at + suc m) b)) ≡ take (at * size) b ++ (r ++ take (m * size) (drop (at * size + size) b))
+  pub joined-replaced : joined (replacedAt at r (pieces size (at + suc m) b)) ≡ take (at * size) b
+      ++ (r ++ take (m * size) (drop (at * size + size) b))
   joined-replaced =
       let e : at + suc m - suc at ≡ m = omega arith in
       let f : suc at * size ≡ at * size + size = omega (arith, suc-mul at size) in
       joined-append size (take at (pieces size (at + suc m) b)) (r ∷ drop (suc at) (pieces size (at + suc m) b))
-      ∙ rw (take-pieces size at (at + suc m) b (omega arith), drop-pieces size (suc at) (at + suc m) b (omega arith), e, f, joined-pieces size at b, joined-pieces size m (drop (at * size + size) b))
+      ∙ rw (
+        take-pieces size at (at + suc m) b (omega arith),
+        drop-pieces size (suc at) (at + suc m) b
+            (omega arith),
+        e,
+        f,
+        joined-pieces size at b,
+        joined-pieces size m (drop (at * size + size) b),
+      )
 
   -- their bytes
-  pub inserted-bytes : length r ≡ size → (at + m) * size ≤ length b → length (joined (insertedAt at r (pieces size (at + m) b))) ≡ (at + m) * size + size
+  pub inserted-bytes : length r ≡ size → (at + m) * size ≤ length b
+      → length (joined (insertedAt at r (pieces size (at + m) b))) ≡ (at + m) * size + size
   inserted-bytes l h = rw joined-inserted (simp (length-append, length-take, length-drop) (omega (arith, add-mul at m size)))
 
-module _ (size at m : ℕ) (t r : List ℕ) (l : length r ≡ size) (c : countOf t ≡ at + m) (fits : 32 + (at + m) * size + size ≤ length t) where
+module _ (size at m : ℕ) (t r : List ℕ) (l : length r ≡ size) (c : countOf t ≡ at + m)
+    (fits : 32 + (at + m) * size + size ≤ length t) where
   abbrev b : List ℕ
   b = drop 32 t
 
@@ -70,7 +93,8 @@ module _ (size at m : ℕ) (t r : List ℕ) (l : length r ≡ size) (c : countOf
   head-length = counting-length (at + m + 1) t (omega arith)
 
   -- the count, a gap and the record in it are the table with the record put in
-  pub written-inserted : pasted (opened (pasted t 6 (bytesOf 2 (at + m + 1))) (32 + at * size) (32 + (at + m) * size) size) (32 + at * size) r
+  pub written-inserted : pasted (opened (pasted t 6 (bytesOf 2 (at + m + 1))) (32 + at * size) (32 + (at + m) * size) size)
+      (32 + at * size) r
       ≡ written t (insertedAt at r (recordsOf size t))
   unfolding written recordsOf
   written-inserted =
@@ -81,13 +105,28 @@ module _ (size at m : ℕ) (t r : List ℕ) (l : length r ≡ size) (c : countOf
       let n : length (insertedAt at r (pieces size (at + m) b)) ≡ at + m + 1 =
       let long : length (pieces size (at + m) b) ≡ at + m = length-pieces size (at + m) b in
       inserted-length at r (pieces size (at + m) b) (omega arith) ∙ omega arith in
-      rw (counted (at + m + 1) t (omega arith), c, n, inserted-bytes size at m b r l (rw (length-drop 32 t) (omega arith)), joined-inserted size at m b r)
+      rw (
+        counted (at + m + 1) t (omega arith),
+        c,
+        n,
+        inserted-bytes size at m b r l
+            (rw (length-drop 32 t) (omega arith)),
+        joined-inserted size at m b r,
+      )
       (pasted-opened (head ++ b) r (32 + at * size) (32 + (at + m) * size) size l (omega arith) (omega arith)
-      ∙ rw (take-past head b 32 (at * size) head-length, drop-past head b 32 (at * size) head-length, up, far, drop-past head b 32 ((at + m) * size + size) head-length)
+      ∙ rw (
+        take-past head b 32 (at * size) head-length,
+        drop-past head b 32 (at * size) head-length,
+        up,
+        far,
+        drop-past head b 32
+            ((at + m) * size + size) head-length,
+      )
       (regroup head (take (at * size) b) r (take (m * size) (drop (at * size) b)) (drop ((at + m) * size + size) b)
       ∙ rw (drop-drop ((at + m) * size + size) 32 t)))
 
-module _ (size at m : ℕ) (t r : List ℕ) (l : length r ≡ size) (c : countOf t ≡ at + suc m) (fits : 32 + (at + suc m) * size ≤ length t) (small : Bytes t) where
+module _ (size at m : ℕ) (t r : List ℕ) (l : length r ≡ size) (c : countOf t ≡ at + suc m)
+    (fits : 32 + (at + suc m) * size ≤ length t) (small : Bytes t) where
   abbrev behind : List ℕ
   behind = drop 32 t
 
@@ -116,7 +155,8 @@ module _ (size at m : ℕ) (t r : List ℕ) (l : length r ≡ size) (c : countOf
 -- ---- the same in the numbers of the code
 module _ (size at n : ℕ) (t r : List ℕ) (l : length r ≡ size) (c : n ≡ countOf t) where
   pub put-in : at ≤ n → n < roomOf size t
-      → pasted (opened (pasted t 6 (bytesOf 2 (n + 1))) (32 + at * size) (32 + n * size) size) (32 + at * size) r ≡ written t (insertedAt at r (recordsOf size t))
+      → pasted (opened (pasted t 6 (bytesOf 2 (n + 1))) (32 + at * size) (32 + n * size) size) (32 + at * size) r
+      ≡ written t (insertedAt at r (recordsOf size t))
   put-in h room =
       let e : n ≡ at + (n - at) = omega arith in
       rw e (written-inserted size at (n - at) t r l (sym c ∙ e) (rw e at (record-fits size t n room)))

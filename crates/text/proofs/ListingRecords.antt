@@ -1,4 +1,5 @@
--- A derivation that is not refused leaves a table whose records are the derived ones, so that their text is the listing. Assumes nothing.
+-- A derivation that is not refused leaves a table whose records are the derived ones, so that their text is the listing. Assumes
+-- nothing.
 use Prim.Native.Nat.{ℕ, _≤_}
 use mathlib.Core.Path.{_≡_, sym, ap, _∙_, subst}
 use mathlib.Core.List.{List, []}
@@ -24,9 +25,11 @@ module _ (p : List ℕ) (r : Derivation) (answer : r ≡ derivationOf p output) 
     is-held = buffer ∙ ap (λ (a : Derivation). afterDeriving a p output) told
 
     pub derived-room : countOf after ≤ roomOf (recordSize (strideOf after)) after
-    derived-room = subst (λ (t : List ℕ). countOf t ≤ roomOf (recordSize (strideOf t)) t) (sym is-held) (table-room p output n deriving′)
+    derived-room =
+        subst (λ (t : List ℕ). countOf t ≤ roomOf (recordSize (strideOf t)) t) (sym is-held) (table-room p output n deriving′)
 
-    pub derived-text : textOf (Derived (countOf after)) (strideOf after) (recordsOf (recordSize (strideOf after)) after) ≡ listingOf p
+    pub derived-text : textOf (Derived (countOf after)) (strideOf after) (recordsOf (recordSize (strideOf after)) after)
+        ≡ listingOf p
     unfolding listingOf
     derived-text =
         ap (λ (t : List ℕ). textOf (Derived (countOf t)) (strideOf t) (recordsOf (recordSize (strideOf t)) t)) is-held

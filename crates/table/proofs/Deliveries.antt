@@ -30,10 +30,11 @@ use Rattle.table.specs.Arriving.{recordOf, filingOf, changed, filed, arr
 use Rattle.table.specs.Deliveries.{deliveredTo, sentTo, holding}
 use Rattle.table.specs.declared.check.Sides.the-variants.{Both}
 use Rattle.table.specs.declared.create.Creation.the-variants.{Made}
-use Rattle.table.proofs.Made.{made-facts}
+use Rattle.table.proofs.NewTable.{made-facts}
 use Rattle.table.proofs.Sound.{SoundTable, table-sound}
-use Rattle.table.proofs.Kept.{Alike, same-side, same-feature, same-room, written-alike, written-records, written-over}
-use Rattle.table.proofs.Stays.{Good, Up, good-sized, within, few, stays, Changes, filing-changes, left-by-slice, filed-by, arrival-keeps}
+use Rattle.table.proofs.SameHeader.{Alike, same-side, same-feature, same-room, written-alike, written-records, written-over}
+use Rattle.table.proofs.Stays.{Good, Up, good-sized, within, few, stays, Changes, filing-changes, left-by-slice, filed-by}
+use Rattle.table.proofs.Stays.{arrival-keeps}
 
 -- ---- deliveries to a table that holds records, and to the list of records
 module _ (t : List ℕ) (h : SoundTable (strideOf t) Both t) where
@@ -60,13 +61,15 @@ module _ (t : List ℕ) (h : SoundTable (strideOf t) Both t) where
     alike = written-alike t rs (h .headed) inside
 
     held : recordsOf size (written t rs) ≡ rs
-    held = written-records t rs (h .headed) inside (few stride Both t h rs (f .good) (f .fits)) size (good-sized stride (sideOf t) rs (f .good))
+    held = written-records t rs (h .headed) inside (few stride Both t h rs (f .good) (f .fits)) size
+        (good-sized stride (sideOf t) rs (f .good))
 
     sound : checkTable Both (written t rs) ≡ Sound
     sound = table-sound Both (written t rs) (stays stride Both t h rs (f .good) (f .fits) (f .up))
 
     -- an arrival there is checked as it would be at t
-    checked : (s : List ℕ) → checkSlice stride (featureOf (written t rs)) (sideOf (written t rs)) s ≡ checkSlice stride (featureOf t) (sideOf t) s
+    checked : (s : List ℕ)
+        → checkSlice stride (featureOf (written t rs)) (sideOf (written t rs)) s ≡ checkSlice stride (featureOf t) (sideOf t) s
     checked s i = checkSlice stride (same-feature t (written t rs) alike i) (same-side t (written t rs) alike i) s
 
     module _ (s : List ℕ) (d : checkSlice stride (featureOf t) (sideOf t) s ≡ Sound) where
@@ -86,7 +89,8 @@ module _ (t : List ℕ) (h : SoundTable (strideOf t) Both t) where
           here : arrivedAt (written t rs) s ≡ changed (filingOf room (recordOf s) rs) (written t rs) (filed (recordOf s) rs)
           here =
               filed-by (written t rs) s sound (checked s ∙ d)
-              ∙ (λ i. changed (filingOf (same-room t (written t rs) alike size i) (recordOf s) (held i)) (written t rs) (filed (recordOf s) (held i)))
+              ∙ (λ i. changed (filingOf (same-room t (written t rs) alike size i) (recordOf s) (held i)) (written t rs)
+              (filed (recordOf s) (held i)))
 
           longer : length (joined rs) ≤ length (joined us)
           longer =
@@ -115,7 +119,9 @@ module _ (t : List ℕ) (h : SoundTable (strideOf t) Both t) where
       go : (c : Checked) → checkSlice stride (featureOf t) (sideOf t) s ≡ c → Delivers ss
           → deliveredTo (written t rs) (s ∷ ss) ≡ written t
           (delivered keyOf keyLess sameKey correctionOf lowerCorrection room rs (sentTo stride (featureOf t) (sideOf t) (s ∷ ss)))
-      go (Refused x) d more = ap (λ (l : List ℕ). deliveredTo l ss) (left-by-slice (written t rs) s (sound rs f) x (checked rs f s ∙ d)) ∙ rw d (more rs f)
+      go (Refused x) d more =
+          ap (λ (l : List ℕ). deliveredTo l ss) (left-by-slice (written t rs) s (sound rs f) x (checked rs f s ∙ d))
+          ∙ rw d (more rs f)
       go Sound d more = ap (λ (l : List ℕ). deliveredTo l ss) (taken rs f s d) ∙ rw d (more (us rs f s d) (fitting rs f s d))
 
 -- ---- a new table
@@ -141,7 +147,8 @@ module _ (b : List ℕ) (side : ℕ) (feature : List ℕ) (l : length feature �
   head-length = omega (arith, tail-length)
 
   pub new-length : length new ≡ length b
-  new-length = length-append (headerOf side feature 0) rest ∙ omega (arith, head-length, length-drop 32 b, made-facts b side made .0)
+  new-length =
+      length-append (headerOf side feature 0) rest ∙ omega (arith, head-length, length-drop 32 b, made-facts b side made .0)
 
   pub new-room : (size : ℕ) → roomOf size new ≡ roomOf size b
   unfolding roomOf
@@ -175,7 +182,8 @@ module _ (b : List ℕ) (side : ℕ) (feature : List ℕ) (l : length feature �
       let long : 32 ≤ length new = omega (arith, new-length, made-facts b side made .0) in
       let reserved : filled 0 8 new 24 ≡ true =
       sym (filled-drop 0 8 new 24 0 (omega arith))
-      ∙ ap (λ (x : List ℕ). filled 0 8 x 0) (ap (drop 16) (append-assoc feature (replicate 8 0) rest) ∙ drop-at feature (replicate 8 0 ++ rest) 16 l)
+      ∙ ap (λ (x : List ℕ). filled 0 8 x 0)
+      (ap (drop 16) (append-assoc feature (replicate 8 0) rest) ∙ drop-at feature (replicate 8 0 ++ rest) 16 l)
       ∙ eight-zeros rest in
       record {
         headed = long;

@@ -28,7 +28,7 @@ use Rattle.history.specs.Changes.{changeInstants, nextOf}
 use Rattle.history.specs.Derived.{Stretch, stretch, stretchesFrom, stretches, filledIn, baselineOf}
 use Rattle.history.proofs.Parts.{last-in, beginIn, line-begin, following-in}
 use Rattle.history.proofs.Line.{Within, only-within, known-line}
-use Rattle.history.proofs.Kept.{append-in}
+use Rattle.history.proofs.Selection.{append-in}
 use Rattle.history.proofs.Changes.{Risen, changes-rising, changes-given, next-in, next-least}
 use Rattle.history.proofs.Steady.{Timely, known-life}
 use Rattle.history.proofs.ReadBack.{stretched, known-stays}
@@ -113,7 +113,12 @@ stretch-next : (slices : List Slice) (us : List Instant) → Risen us → (s : S
 unfolding before
 stretch-next slices (t ∷ ts) (low, up) s m =
     ⊎-elim (here (permanentAt t slices)) (λ n. let h = stretch-next slices ts up s n in
-    record { ahead = h .ahead; least = λ x. ⊎-elim (λ e l. absurd (omega (tests, low (s .period .begin) (stretched slices ts s n .begins), ap (λ i. i .0) e))) (h .least x) })
+    record {
+      ahead = h .ahead;
+      least =
+          λ x. ⊎-elim (λ e l. absurd (omega (tests, low (s .period .begin) (stretched slices ts s n .begins), ap (λ i. i .0) e)))
+          (h .least x);
+    })
     (append-in (stretch t (nextOf ts) (permanentAt t slices)) (stretchesFrom slices ts) s .0 m)
   where
     here : (v : Standing) → In s (stretch t (nextOf ts) v) → Next (t ∷ ts) s
@@ -135,7 +140,9 @@ times-baseline p l g h =
     let end = none-or (p .end) (before (p .begin) (p .end)) (⊎-elim inl (λ k. inr (omega tests)) (h .end)) in
     let born = none-or (l .begin) (atMost (l .begin) (p .begin)) (⊎-elim inl (λ k. inr (omega tests)) (h .lifeBegin)) in
     let gone = none-or (l .end) (before (p .begin) (l .end)) (⊎-elim inl (λ k. inr (omega tests)) (h .lifeEnd)) in
-    let within = none-or (p .end) (isNone (l .end) || atMost (p .end) (l .end)) (⊎-elim inl (λ e. inr (none-or (l .end) (atMost (p .end) (l .end)) (⊎-elim inl (λ k. inr (omega tests)) e))) (h .inLife)) in
+    let within =
+    none-or (p .end) (isNone (l .end) || atMost (p .end) (l .end))
+    (⊎-elim inl (λ e. inr (none-or (l .end) (atMost (p .end) (l .end)) (⊎-elim inl (λ k. inr (omega tests)) e))) (h .inLife)) in
     rw (g, end, born, gone, within)
 
 -- ---- a derived BASELINE
@@ -152,7 +159,9 @@ module _ (unknown : List ℕ) (slices : List Slice) (n : ℕ) (s : Stretch) wher
         end = next .ahead;
         lifeBegin = state-born slices (s .period .begin) (s .state) (h .has) born;
         lifeEnd = stays;
-        inLife = inr (⊎-elim inl (λ l. ⊎-elim (λ e. inl (ap (λ i. i .0) e)) (λ i. inr (next .least (s .state .life .end) i l)) change) stays);
+        inLife = inr
+            (⊎-elim inl
+            (λ l. ⊎-elim (λ e. inl (ap (λ i. i .0) e)) (λ i. inr (next .least (s .state .life .end) i l)) change) stays);
       })
 
   pub drawn-content : contentRight (baselineOf unknown n s) ≡ true

@@ -20,14 +20,16 @@ use Rattle.table.specs.Header.{countOf, strideOf, roomOf, recordAt}
 use Rattle.history.specs.Counted.{counts, sliceKey}
 use Rattle.history.specs.Anchor.{stands, opens, Anchor, based, opened, nowhere, two, only, anchor}
 use Rattle.history.specs.State.{State, started, appliedAll}
-use Rattle.history.specs.Permanent.{after, following, refuses, known, withdrawn, unlessWithdrawn, reached, standingFrom, permanentAt}
+use Rattle.history.specs.Permanent.{after, following, refuses, known, withdrawn, unlessWithdrawn, reached, standingFrom}
+use Rattle.history.specs.Permanent.{permanentAt}
 use Rattle.history.specs.Snapshot.{valid, passing}
 use Rattle.history.specs.Source.{lastOf}
 use Rattle.history.specs.Parts.{tells, due, opensDue, Placed, latestFrom, laterTurn, latestDue, latestValid}
 use Rattle.history.proofs.Parts.{orElse, last-or, beginIn, endIn, line-end}
 use Rattle.history.proofs.Latest.{sliceIn, afterOnly, latest-placed, last-due, last-valid}
 use Rattle.state.specs.Asking.{slicesOf}
-use Rattle.state.specs.Steps.{nothing, among, wanted, markOf, markDue, placeAndOne, tallyFrom, sinceOf, Below, afterStart, originOf, lifeAt, startAt, unlessEnded, foundFrom, standingOf}
+use Rattle.state.specs.Steps.{nothing, among, wanted, markOf, markDue, placeAndOne, tallyFrom, sinceOf, Below, afterStart}
+use Rattle.state.specs.Steps.{originOf, lifeAt, startAt, unlessEnded, foundFrom, standingOf}
 use Rattle.state.specs.declared.mention.Mark.{Mark}
 use Rattle.state.specs.declared.anchor.Few.{Few}
 use Rattle.state.specs.declared.anchor.Few.the-variants.{Zero, One, More}
@@ -95,12 +97,17 @@ module _ (test : Slice → Bool) where
       pub few-none : few ≡ Zero → kept test (slicesOf p) ≡ []
       few-none = said Zero
 
-      pub few-one : countOf p ≤ roomOf (recordSize (strideOf p)) p → (i : ℕ) → few ≡ One i → (kept test (slicesOf p) ≡ sliceHere p i ∷ []) × (i < countOf p)
+      pub few-one : countOf p ≤ roomOf (recordSize (strideOf p)) p → (i : ℕ) → few ≡ One i
+          → (kept test (slicesOf p) ≡ sliceHere p i ∷ []) × (i < countOf p)
       few-one roomy i e =
           let (j, q, h, f) = said (One i) e in
           let same : i ≡ j = omega arith in
-          let low : i < countOf p = omega (arith, slices-length p) in
-          (f (sliceHere p i) ∙ ap (λ d. d ∷ []) (ap (λ k. getD (slicesOf p) k (sliceHere p i)) (sym same) ∙ slice-at p i (sliceHere p i) low roomy), low)
+          let low : i < countOf p = omega (arith, slices-length p) in (
+            f (sliceHere p i)
+                ∙ ap (λ d. d ∷ [])
+                (ap (λ k. getD (slicesOf p) k (sliceHere p i)) (sym same) ∙ slice-at p i (sliceHere p i) low roomy),
+            low,
+          )
 
       pub few-more : few ≡ More → (at : Slice → Anchor) (otherwise : Anchor) → only at otherwise (kept test (slicesOf p)) ≡ two
       few-more e at otherwise = let (x, y, xs, k) = said More e in rw k
@@ -126,7 +133,8 @@ module _ (p : List ℕ) where
   module _ (roomy : countOf p ≤ roomOf (recordSize (strideOf p)) p) where
     -- what a pass finds stands at its place
     module _ (later : Slice → Slice → Bool) (test : Slice → Bool) where
-      found-here : (b : Placed) → latestFrom later test none 0 (slicesOf p) ≡ some b → (b .place < countOf p) × (b .slice ≡ sliceHere p (b .place))
+      found-here : (b : Placed) → latestFrom later test none 0 (slicesOf p) ≡ some b
+          → (b .place < countOf p) × (b .slice ≡ sliceHere p (b .place))
       found-here b e =
           let (h, g, _) = latest-placed later test (slicesOf p) b e in
           let low : b .place < countOf p = omega (arith, slices-length p) in
@@ -171,7 +179,8 @@ abbrev pub startHere : List ℕ → Bool → ℕ → Start
 startHere p b i = startAt b i (recordAt (recordSize (strideOf p)) i p)
 
 -- a mention comes after the start where its slice follows the anchor
-after-start : (p : List ℕ) (b : Bool) (i j : ℕ) (d : Slice) → afterStart (startHere p b i) (markOf j d) ≡ after (anchorBy b (sliceHere p i)) d
+after-start : (p : List ℕ) (b : Bool) (i j : ℕ) (d : Slice)
+    → afterStart (startHere p b i) (markOf j d) ≡ after (anchorBy b (sliceHere p i)) d
 unfolding afterStart viewOf
 after-start p true i j d = refl
 after-start p false i j d = refl
@@ -194,24 +203,30 @@ mark-place (some b) = refl
 pub origin-known : (n : ℕ) (s : Start) (told : Bool) (m : Mark) → s .place < n → m .from ≤ n → originOf s told m ≤ n
 unfolding originOf
 origin-known n s told m h k =
-    pick-ind (λ v. v ≤ n) (not (eqb (m .from) 0) && afterStart s m) (λ _. k) (λ _. pick-ind (λ v. v ≤ n) told (λ _. omega arith) (λ _. omega arith))
+    pick-ind (λ v. v ≤ n) (not (eqb (m .from) 0) && afterStart s m) (λ _. k)
+    (λ _. pick-ind (λ v. v ≤ n) told (λ _. omega arith) (λ _. omega arith))
 
 module _ (since t : Instant) (p : List ℕ) (roomy : countOf p ≤ roomOf (recordSize (strideOf p)) p) where
-  due-here : (q : ℕ) (b : Placed) → latestDue q since t (slicesOf p) ≡ some b → (b .place < countOf p) × (b .slice ≡ sliceHere p (b .place))
+  due-here : (q : ℕ) (b : Placed) → latestDue q since t (slicesOf p) ≡ some b
+      → (b .place < countOf p) × (b .slice ≡ sliceHere p (b .place))
   unfolding latestDue
   due-here q = found-here p roomy laterTurn (λ d. due since t d && tells q d)
 
   -- a mark names a slice that is there, or none
   pub known-due : (q : ℕ) (m : Mark) → m ≡ markDue (latestDue q since t (slicesOf p)) → m .from ≤ countOf p
   unfolding latestDue
-  known-due q m e = rw (ap (λ m. m .from) e ∙ mark-place (latestDue q since t (slicesOf p))) (place-known p roomy laterTurn (λ d. due since t d && tells q d))
+  known-due q m e =
+      rw (ap (λ m. m .from) e ∙ mark-place (latestDue q since t (slicesOf p)))
+      (place-known p roomy laterTurn (λ d. due since t d && tells q d))
 
-  pub origin-most : (s : Start) (told : Bool) (q : ℕ) (m : Mark) → s .place < countOf p → m ≡ markDue (latestDue q since t (slicesOf p)) → originOf s told m ≤ countOf p
+  pub origin-most : (s : Start) (told : Bool) (q : ℕ) (m : Mark) → s .place < countOf p
+      → m ≡ markDue (latestDue q since t (slicesOf p)) → originOf s told m ≤ countOf p
   origin-most s told q m h e = origin-known (countOf p) s told m h (known-due q m e)
 
   pub origin-last : Rising sliceKey keyLess sameKey (slicesOf p) → (b : Bool) (i : ℕ) → Since since (anchorBy b (sliceHere p i))
       → (q : ℕ) (m : Mark) → m ≡ markDue (latestDue q since t (slicesOf p))
-      → sliceNo p (originOf (startHere p b i) (tells q (sliceHere p i)) m) ≡ lastOf (tells q) none (sliceHere p i ∷ following t (slicesOf p) (anchorBy b (sliceHere p i)))
+      → sliceNo p (originOf (startHere p b i) (tells q (sliceHere p i)) m) ≡ lastOf (tells q) none
+      (sliceHere p i ∷ following t (slicesOf p) (anchorBy b (sliceHere p i)))
   unfolding originOf
   origin-last up b i all q m e =
       ap (λ m. sliceNo p (originOf (startHere p b i) told m)) e ∙ go (latestDue q since t (slicesOf p)) refl
@@ -232,10 +247,12 @@ module _ (since t : Instant) (p : List ℕ) (roomy : countOf p ≤ roomOf (recor
       go none f = own-slice p i told
       go (some x) f =
           ap (sliceNo p) (origin-due p b i (x .place) told (x .slice))
-          ∙ by-test (after (anchorBy b a) (x .slice)) (λ y. rw y (ap some (sym (due-here q x f .1)))) (λ n. rw n (own-slice p i told))
+          ∙ by-test (after (anchorBy b a) (x .slice)) (λ y. rw y (ap some (sym (due-here q x f .1))))
+          (λ n. rw n (own-slice p i told))
 
 module _ (t : Instant) (p : List ℕ) (roomy : countOf p ≤ roomOf (recordSize (strideOf p)) p) where
-  valid-here : (q : ℕ) (b : Placed) → latestValid q t (slicesOf p) ≡ some b → (b .place < countOf p) × (b .slice ≡ sliceHere p (b .place))
+  valid-here : (q : ℕ) (b : Placed) → latestValid q t (slicesOf p) ≡ some b
+      → (b .place < countOf p) × (b .slice ≡ sliceHere p (b .place))
   unfolding latestValid
   valid-here q = found-here p roomy (λ a b. true) (λ d. valid t d && tells q d)
 
@@ -292,7 +309,8 @@ module _ (t : Instant) (p : List ℕ) where
   abbrev opening : Slice → Bool
   opening = opensDue (record { 0 = 0 }) t
 
-  by-kept : (xs ys : List Slice) → kept holding (slicesOf p) ≡ xs → kept (opens t) (slicesOf p) ≡ ys → anchor t (slicesOf p) ≡ only based (only opened nowhere ys) xs
+  by-kept : (xs ys : List Slice) → kept holding (slicesOf p) ≡ xs → kept (opens t) (slicesOf p) ≡ ys
+      → anchor t (slicesOf p) ≡ only based (only opened nowhere ys) xs
   unfolding anchor
   by-kept xs ys e f i = only based (only opened nowhere (f i)) (e i)
 
@@ -300,7 +318,9 @@ module _ (t : Instant) (p : List ℕ) where
   unfolding permanentAt
   by-anchor a e = ap (standingFrom t (slicesOf p)) e
 
-  reached-by : (b : Bool) (d : Slice) → standingFrom t (slicesOf p) (anchorBy b d) ≡ unlessWithdrawn t (appliedAll (started d) (following t (slicesOf p) (anchorBy b d)))
+  reached-by : (b : Bool) (d : Slice)
+      → standingFrom t (slicesOf p) (anchorBy b d) ≡ unlessWithdrawn t
+      (appliedAll (started d) (following t (slicesOf p) (anchorBy b d)))
   unfolding reached
   reached-by true d = refl
   reached-by false d = refl
@@ -315,8 +335,10 @@ module _ (t : Instant) (p : List ℕ) where
   since-first a d y = omega tests
 
   module _ (roomy : countOf p ≤ roomOf (recordSize (strideOf p)) p) (up : Rising sliceKey keyLess sameKey (slicesOf p)) where
-    found-settled : (since : Instant) (m : Mark) → m ≡ markDue (latestDue 9 since t (slicesOf p)) → (b : Bool) (i : ℕ) → i < countOf p
-        → Since since (anchorBy b (sliceHere p i)) → anchor t (slicesOf p) ≡ anchorBy b (sliceHere p i) → Settled since t p (foundFrom t p m b i)
+    found-settled : (since : Instant) (m : Mark) → m ≡ markDue (latestDue 9 since t (slicesOf p)) → (b : Bool) (i : ℕ)
+        → i < countOf p
+        → Since since (anchorBy b (sliceHere p i)) → anchor t (slicesOf p) ≡ anchorBy b (sliceHere p i)
+        → Settled since t p (foundFrom t p m b i)
     unfolding foundFrom unlessEnded unlessWithdrawn withdrawn
     found-settled since m e b i h all a =
         let s = startHere p b i in
@@ -333,18 +355,25 @@ module _ (t : Instant) (p : List ℕ) where
         (λ n. record { place = h; is = refl; anchored = a; state = whole ∙ rw (← tested, n); all = all })
 
     pub settled : (bases openings : Few) (ms : List Mark) → bases ≡ tallyFrom holding 0 Zero (slicesOf p)
-        → openings ≡ tallyFrom (opensDue (sinceOf p bases) t) 0 Zero (slicesOf p) → getD ms 9 nothing ≡ markDue (latestDue 9 (sinceOf p bases) t (slicesOf p))
+        → openings ≡ tallyFrom (opensDue (sinceOf p bases) t) 0 Zero (slicesOf p)
+        → getD ms 9 nothing ≡ markDue (latestDue 9 (sinceOf p bases) t (slicesOf p))
         → Settled (sinceOf p bases) t p (standingOf t p bases openings ms)
-    settled Zero Zero ms f g e = by-anchor nowhere (by-kept [] [] (few-none holding p Zero f refl) (opens-kept t (slicesOf p) ∙ few-none opening p Zero g refl))
+    settled Zero Zero ms f g e =
+        by-anchor nowhere
+        (by-kept [] [] (few-none holding p Zero f refl) (opens-kept t (slicesOf p) ∙ few-none opening p Zero g refl))
     settled Zero (One i) ms f g e =
         let (k, h) = few-one opening p (One i) g roomy i refl in
         found-settled (record { 0 = 0 }) (getD ms 9 nothing) e false i h (since-first (opened (sliceHere p i)))
         (by-kept [] (sliceHere p i ∷ []) (few-none holding p Zero f refl) (opens-kept t (slicesOf p) ∙ k))
     settled Zero More ms f g e =
-        by-anchor two (by-kept [] (kept opening (slicesOf p)) (few-none holding p Zero f refl) (opens-kept t (slicesOf p)) ∙ few-more opening p More g refl opened nowhere)
+        by-anchor two
+        (by-kept [] (kept opening (slicesOf p)) (few-none holding p Zero f refl) (opens-kept t (slicesOf p))
+        ∙ few-more opening p More g refl opened nowhere)
     settled (One i) openings ms f g e =
         let (k, h) = few-one holding p (One i) f roomy i refl in
-        found-settled (sinceOf p (One i)) (getD ms 9 nothing) e true i h (since-base i) (by-kept (sliceHere p i ∷ []) (kept (opens t) (slicesOf p)) k refl)
+        found-settled (sinceOf p (One i)) (getD ms 9 nothing) e true i h (since-base i)
+        (by-kept (sliceHere p i ∷ []) (kept (opens t) (slicesOf p)) k refl)
     settled More openings ms f g e =
         by-anchor two
-        (by-kept (kept holding (slicesOf p)) (kept (opens t) (slicesOf p)) refl refl ∙ few-more holding p More f refl based (only opened nowhere (kept (opens t) (slicesOf p))))
+        (by-kept (kept holding (slicesOf p)) (kept (opens t) (slicesOf p)) refl refl
+        ∙ few-more holding p More f refl based (only opened nowhere (kept (opens t) (slicesOf p))))

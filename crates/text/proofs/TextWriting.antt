@@ -30,7 +30,8 @@ wrote-none d at h = record {
 }
 
 -- a text behind another
-pub then : {j k : ℕ} {d s t a b : List ℕ} {at q r : ℕ} → at + (j + k) ≤ length d → Wrote j d at a s q → Wrote k s q b t r → Wrote (j + k) d at (a ++ b) t r
+pub then : {j k : ℕ} {d s t a b : List ℕ} {at q r : ℕ} → at + (j + k) ≤ length d → Wrote j d at a s q → Wrote k s q b t r
+    → Wrote (j + k) d at (a ++ b) t r
 then {j} {k} {d} {s} {t} {a} {b} {at} {q} {r} h x y = record {
   bytes = pasted-on d a b at q (x .bytes) (y .bytes) (sym (x .next)) (omega (arith, x .next, x .few, y .few));
   next = omega (arith, y .next, x .next, length-append a b);
@@ -64,35 +65,44 @@ module _ (k n : ℕ) where
 
 -- ---- a line
 -- its pieces with the space behind each
-behind-each : (a b e f : List ℕ) → (a ++ (32 ∷ [])) ++ (((b ++ (32 ∷ [])) ++ (e ++ (32 ∷ []))) ++ (f ++ (10 ∷ []))) ≡ a ++ (32 ∷ b ++ (32 ∷ e ++ (32 ∷ f ++ (10 ∷ []))))
+behind-each : (a b e f : List ℕ)
+    → (a ++ (32 ∷ [])) ++ (((b ++ (32 ∷ [])) ++ (e ++ (32 ∷ []))) ++ (f ++ (10 ∷ []))) ≡ a
+    ++ (32 ∷ b ++ (32 ∷ e ++ (32 ∷ f ++ (10 ∷ []))))
 behind-each a b e f =
     let s : List ℕ = 32 ∷ [] in
     append-assoc a s (((b ++ s) ++ (e ++ s)) ++ (f ++ (10 ∷ [])))
     ∙ ap (λ (l : List ℕ). a ++ (32 ∷ l))
-    (append-assoc (b ++ s) (e ++ s) (f ++ (10 ∷ [])) ∙ append-assoc b s ((e ++ s) ++ (f ++ (10 ∷ []))) ∙ ap (λ (l : List ℕ). b ++ (32 ∷ l)) (append-assoc e s (f ++ (10 ∷ []))))
+    (append-assoc (b ++ s) (e ++ s) (f ++ (10 ∷ [])) ∙ append-assoc b s ((e ++ s) ++ (f ++ (10 ∷ [])))
+    ∙ ap (λ (l : List ℕ). b ++ (32 ∷ l)) (append-assoc e s (f ++ (10 ∷ []))))
 
 pub line-pieces : (stride : ℕ) (r : List ℕ)
-    → lineOf stride r ≡ (decimalOf (sequenceOf r .0) ++ (32 ∷ [])) ++ (((decimalOf (periodOf r .begin .0) ++ (32 ∷ [])) ++ (endOf (periodOf r .end) ++ (32 ∷ []))) ++ (map formOf (partsOf stride r) ++ (10 ∷ [])))
+    → lineOf stride r ≡ (decimalOf (sequenceOf r .0) ++ (32 ∷ []))
+    ++ (((decimalOf (periodOf r .begin .0) ++ (32 ∷ [])) ++ (endOf (periodOf r .end) ++ (32 ∷ [])))
+    ++ (map formOf (partsOf stride r) ++ (10 ∷ [])))
 unfolding lineOf
 line-pieces stride r =
-    sym (behind-each (decimalOf (sequenceOf r .0)) (decimalOf (periodOf r .begin .0)) (endOf (periodOf r .end)) (map formOf (partsOf stride r)))
+    sym (behind-each (decimalOf (sequenceOf r .0)) (decimalOf (periodOf r .begin .0)) (endOf (periodOf r .end))
+    (map formOf (partsOf stride r)))
 
 -- ---- one more
-mapped-more : {A B : Type 0} (f : A → B) (l : List A) (i : ℕ) (d : A) → i < length l → map f (take (suc i) l) ≡ map f (take i l) ++ (f (getD l i d) ∷ [])
+mapped-more : {A B : Type 0} (f : A → B) (l : List A) (i : ℕ) (d : A) → i < length l
+    → map f (take (suc i) l) ≡ map f (take i l) ++ (f (getD l i d) ∷ [])
 mapped-more f [] i d h = absurd (omega arith)
 mapped-more f (x ∷ xs) zero d h = refl
 mapped-more f (x ∷ xs) (suc i) d h = ap (_∷_ (f x)) (mapped-more f xs i d (omega arith))
 
 -- the forms of the first i properties, and one more
 pub forms-more : (stride : ℕ) (r : List ℕ) (i : ℕ) → 0 < stride → i < 8
-    → map formOf (take (i + 1) (partsOf stride r)) ≡ map formOf (take i (partsOf stride r)) ++ ((48 + byteOf r (32 + i * stride) % 10) ∷ [])
+    → map formOf (take (i + 1) (partsOf stride r)) ≡ map formOf (take i (partsOf stride r))
+    ++ ((48 + byteOf r (32 + i * stride) % 10) ∷ [])
 unfolding propertiesOf
 forms-more stride r i s h =
     let e : i + 1 ≡ suc i = omega arith in
     let part = piece-at stride 8 (drop 32 r) [] i h in
     let first : byteOf (getD (partsOf stride r) i []) 0 ≡ byteOf r (32 + i * stride) =
     ap (λ (l : List ℕ). byteOf l 0) part ∙ getD-take stride (drop (i * stride) (drop 32 r)) 0 0 s
-    ∙ getD-drop (i * stride) (drop 32 r) 0 0 ∙ getD-drop 32 r (i * stride + 0) 0 ∙ ap (λ (n : ℕ). byteOf r (32 + n)) (add-zero (i * stride)) in
+    ∙ getD-drop (i * stride) (drop 32 r) 0 0 ∙ getD-drop 32 r (i * stride + 0) 0
+    ∙ ap (λ (n : ℕ). byteOf r (32 + n)) (add-zero (i * stride)) in
     rw e (mapped-more formOf (partsOf stride r) i [] (omega (arith, length-pieces stride 8 (drop 32 r))))
     ∙ ap (λ (n : ℕ). map formOf (take i (partsOf stride r)) ++ ((48 + n % 10) ∷ [])) first
 
@@ -112,4 +122,5 @@ within false n k m h e = let q : n ≡ k = cc in omega (arith, h refl)
 
 pub put-within : (text buffer : List ℕ) (n : ℕ) → putOf text buffer ≡ Text n → n ≤ length buffer
 unfolding putOf
-put-within text buffer n = within (ltb (length buffer) (length text)) (length text) n (length buffer) (ltb-false (length buffer) (length text))
+put-within text buffer n =
+    within (ltb (length buffer) (length text)) (length text) n (length buffer) (ltb-false (length buffer) (length text))

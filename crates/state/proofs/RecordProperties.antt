@@ -20,7 +20,8 @@ use Rattle.state.specs.Written.{propertyBytes, stateRecord}
 use Rattle.state.proofs.Slices.{propertyAt, view-property}
 
 -- one that is mentioned is written as its bytes
-pub mention-bytes : (stride : ℕ) (c : Bool) (b : List ℕ) → isMentioned (cond c (says b) unmentioned) ≡ true → propertyBytes stride (cond c (says b) unmentioned) ≡ b
+pub mention-bytes : (stride : ℕ) (c : Bool) (b : List ℕ) → isMentioned (cond c (says b) unmentioned) ≡ true
+    → propertyBytes stride (cond c (says b) unmentioned) ≡ b
 mention-bytes stride true b e = refl
 mention-bytes stride false b e = contrary e refl
 
@@ -30,7 +31,8 @@ pub view-bytes : (stride : ℕ) (r : List ℕ) (n : ℕ) → n < 8 → mentions 
 unfolding mentions
 view-bytes stride r n h y =
     let e = view-property stride r n h in
-    ap (propertyBytes stride) e ∙ mention-bytes stride (mentioned (propertyAt stride r n)) (propertyAt stride r n) (ap isMentioned (sym e) ∙ y)
+    ap (propertyBytes stride) e
+    ∙ mention-bytes stride (mentioned (propertyAt stride r n)) (propertyAt stride r n) (ap isMentioned (sym e) ∙ y)
 
 -- each property that says bytes says `stride` of them
 abbrev pub Fits : ℕ → List Property → Type 0
@@ -58,5 +60,6 @@ module _ (stride : ℕ) (wide : 2 ≤ stride) where
         → take stride (drop (32 + n * stride) (stateRecord stride t s)) ≡ propertyBytes stride (getD (s .properties) n unmentioned)
     written-property n h =
         ap (take stride) (sym (drop-drop (n * stride) 32 (stateRecord stride t s)) ∙ ap (drop (n * stride)) behind)
-        ∙ joined-at stride parts (propertyBytes stride unmentioned) sized n (rw (length-map (s .properties) (propertyBytes stride)) h)
+        ∙ joined-at stride parts (propertyBytes stride unmentioned) sized n
+        (rw (length-map (s .properties) (propertyBytes stride)) h)
         ∙ List·getD-map (propertyBytes stride) (s .properties) n unmentioned

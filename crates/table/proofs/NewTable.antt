@@ -37,7 +37,8 @@ module _ (t : List ℕ) (side : ℕ) where
         → pasted (pasted (pasted t 0 front) 8 feature) 24 (replicate 8 0) ≡ headerOf side feature 0 ++ drop 32 t
     header-written feature l =
         let both : length (front ++ feature) ≡ 24 = length-append front feature ∙ omega arith in
-        let all : length ((front ++ feature) ++ replicate 8 0) ≡ 32 = length-append (front ++ feature) (replicate 8 0) ∙ omega arith in
+        let all : length ((front ++ feature) ++ replicate 8 0) ≡ 32 =
+        length-append (front ++ feature) (replicate 8 0) ∙ omega arith in
         let end : 0 + length ((front ++ feature) ++ replicate 8 0) ≡ 32 = omega arith in
         ap (λ (d : List ℕ). pasted d 24 (replicate 8 0)) (pasted-then t front feature 0 8 refl (omega arith))
         ∙ pasted-then t (front ++ feature) (replicate 8 0) 0 24 (omega arith) (omega arith)

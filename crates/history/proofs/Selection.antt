@@ -38,18 +38,22 @@ module _ {A : Type 0} (f : A → Bool) (d : A) where
   kept-nowhere l h = kept-none f l (λ x m. let (j, k, e) = in-at l x d m in ap f (sym e) ∙ h j k)
 
   -- one place alone passes
-  pub kept-one : (l : List A) (i : ℕ) → i < length l → f (getD l i d) ≡ true → ((j : ℕ) → j < length l → (j ≡ i → ⊥) → f (getD l j d) ≡ false)
+  pub kept-one : (l : List A) (i : ℕ) → i < length l → f (getD l i d) ≡ true
+      → ((j : ℕ) → j < length l → (j ≡ i → ⊥) → f (getD l j d) ≡ false)
       → kept f l ≡ getD l i d ∷ []
   kept-one [] i h y others = absurd (omega arith)
-  kept-one (x ∷ xs) zero h y others = rw y (ap (λ (l : List A). x ∷ l) (kept-nowhere xs (λ j k. others (suc j) (omega arith) (λ e. omega arith))))
+  kept-one (x ∷ xs) zero h y others =
+      rw y (ap (λ (l : List A). x ∷ l) (kept-nowhere xs (λ j k. others (suc j) (omega arith) (λ e. omega arith))))
   kept-one (x ∷ xs) (suc i) h y others =
-      rw (others 0 (omega arith) (λ e. omega arith)) (kept-one xs i (omega arith) y (λ j k n. others (suc j) (omega arith) (λ e. n (omega arith))))
+      rw (others 0 (omega arith) (λ e. omega arith))
+      (kept-one xs i (omega arith) y (λ j k n. others (suc j) (omega arith) (λ e. n (omega arith))))
 
   -- none of the first n places passes
   pub kept-behind : (n : ℕ) (l : List A) → ((j : ℕ) → j < n → j < length l → f (getD l j d) ≡ false) → kept f l ≡ kept f (drop n l)
   kept-behind zero l h = refl
   kept-behind (suc n) [] h = refl
-  kept-behind (suc n) (x ∷ xs) h = rw (h 0 (omega arith) (omega arith)) (kept-behind n xs (λ j k m. h (suc j) (omega arith) (omega arith)))
+  kept-behind (suc n) (x ∷ xs) h =
+      rw (h 0 (omega arith) (omega arith)) (kept-behind n xs (λ j k m. h (suc j) (omega arith) (omega arith)))
 
 -- what is kept of a rising list rises
 pub kept-rising : {R K : Type 0} (key : R → K) (less same : K → K → Bool) (f : R → Bool) (l : List R) → Rising key less same l
@@ -73,6 +77,7 @@ module _ {A B : Type 0} (f : A → List B) where
   pub joined-in : (l : List A) (x : B) → In x (joined (map f l)) ↔ ((a : A) × In a l × In x (f a))
   joined-in [] x = (λ m. absurd m, λ m. m .1)
   joined-in (a ∷ l) x = (
-    λ m. ⊎-elim (λ n. (a, inl refl, n)) (λ n. let (b, i, j) = joined-in l x .0 n in (b, inr i, j)) (append-in (f a) (joined (map f l)) x .0 m),
+    λ m. ⊎-elim (λ n. (a, inl refl, n)) (λ n. let (b, i, j) = joined-in l x .0 n in (b, inr i, j))
+        (append-in (f a) (joined (map f l)) x .0 m),
     λ (b, i, j). append-in (f a) (joined (map f l)) x .1 (⊎-elim (λ e. inl (rw e at j)) (λ n. inr (joined-in l x .1 (b, n, j))) i),
   )

@@ -1,5 +1,5 @@
--- What the property question hands back goes by the slices alone: which table, and the bytes that the slice says which mentioned the
--- property last. Assumes nothing.
+-- What the property question hands back goes by the slices alone: which table, and the bytes that the slice says which mentioned
+-- the property last. Assumes nothing.
 use Prim.Native.Nat.{ℕ, _<_}
 use mathlib.Core.Path.{_≡_, refl, sym, ap, _∙_}
 use mathlib.Core.List.{List, [], _++_}
@@ -24,12 +24,13 @@ use Rattle.history.specs.Source.{line, mentions, lastMention}
 use Rattle.history.proofs.Parts.{last-in, passing-in}
 use Rattle.history.proofs.Line.{line-in}
 use Rattle.state.specs.Written.{propertyBytes}
-use Rattle.state.specs.Asking.{slicesOf, permanentTests, bothTests, askingTests, refusedPlace, placed, placeAt, placeOf, sourceOf, bytesAt}
+use Rattle.state.specs.Asking.{slicesOf, permanentTests, bothTests, askingTests, refusedPlace, placed, placeAt, placeOf}
+use Rattle.state.specs.Asking.{sourceOf, bytesAt}
 use Rattle.state.specs.declared.question.Place.{Place}
 use Rattle.state.specs.declared.question.Source.{Source}
 use Rattle.state.specs.declared.question.Source.the-variants as source
 use Rattle.state.proofs.Slices.{sound-rising}
-use Rattle.state.proofs.Placed.{place-bytes, tests-sound}
+use Rattle.state.proofs.PropertyPlace.{place-bytes, tests-sound}
 
 -- ---- by the slices that mentioned the property last in the temporary and in the permanent table
 abbrev sourceBy : Option Slice → Option Slice → Source
@@ -70,7 +71,8 @@ module _ (p t : List ℕ) (at : Instant) (n : ℕ) where
   standing-source (refuses k) = refl
   standing-source (known s) = placed-source over under
 
-  pub source-by : sourceOf (placeOf p t at n) ≡ refuse (λ k. source.Refused (record { number = k })) asked (sourceAt over under (permanentAt at (slicesOf p)))
+  pub source-by : sourceOf (placeOf p t at n) ≡ refuse (λ k. source.Refused (record { number = k })) asked
+      (sourceAt over under (permanentAt at (slicesOf p)))
   unfolding placeOf
   source-by =
       refuse-map sourceOf refusedPlace (λ k. source.Refused (record { number = k })) (λ k. refl) asked _
@@ -82,17 +84,20 @@ module _ (p t : List ℕ) (at : Instant) (n : ℕ) where
     unfolding lastMention
     placed-said (some d) v x y =
         let (m, k) = last-in (mentions n) (passing at (slicesOf t)) d x in
-        sym (place-bytes t (sound-table Temporary t sound' .roomy) (sound-rising t Temporary sound') n h d (passing-in at (slicesOf t) d m .0) k)
+        sym (place-bytes t (sound-table Temporary t sound' .roomy) (sound-rising t Temporary sound') n h d
+        (passing-in at (slicesOf t) d m .0) k)
     placed-said none (some d) x y =
         let (m, k) = last-in (mentions n) (line at (slicesOf p)) d y in
-        sym (place-bytes p (sound-table Permanent p sound .roomy) (sound-rising p Permanent sound) n h d (line-in at (slicesOf p) d m) k)
+        sym (place-bytes p (sound-table Permanent p sound .roomy) (sound-rising p Permanent sound) n h d
+        (line-in at (slicesOf p) d m) k)
     placed-said none none x y = refl
 
     standing-said : (st : Standing) → bytesAt p t (placeAt p t at n st) ≡ saidAt (strideOf p) n over under st
     standing-said (refuses k) = refl
     standing-said (known s) = placed-said over under refl refl
 
-  pub said-by : bytesAt p t (placeOf p t at n) ≡ refuse (λ k. []) asked (saidAt (strideOf p) n over under (permanentAt at (slicesOf p)))
+  pub said-by : bytesAt p t (placeOf p t at n) ≡ refuse (λ k. []) asked
+      (saidAt (strideOf p) n over under (permanentAt at (slicesOf p)))
   unfolding placeOf bothTests permanentTests
   said-by =
       refuse-map (bytesAt p t) refusedPlace (λ k. []) (λ k. refl) asked _

@@ -1,5 +1,5 @@
--- Where a property stands: the place that a slice tells begins at the slice's own record, lies within the table and has the bytes that
--- the slice says; and the property question answers with the place that the marks name. Assumes nothing.
+-- Where a property stands: the place that a slice tells begins at the slice's own record, lies within the table and has the bytes
+-- that the slice says; and the property question answers with the place that the marks name. Assumes nothing.
 use Prim.Native.Nat.{ℕ, _+_, _*_, _-_, _≤_, _<_}
 use mathlib.Core.Path.{_≡_, refl, sym, ap, _∙_, subst}
 use mathlib.Core.List.{List, [], _∷_, _++_}
@@ -39,22 +39,24 @@ use Rattle.history.specs.Parts.{tells, latestDue, latestValid}
 use Rattle.history.proofs.Parts.{last-in, passing-in}
 use Rattle.history.proofs.Line.{line-in}
 use Rattle.state.specs.Written.{propertyBytes}
-use Rattle.state.specs.Asking.{slicesOf, permanentTests, bothTests, askingTests, refusedPlace, placeIn, placed, placeAt, placeOf}
+use Rattle.state.specs.Asking.{slicesOf, permanentTests, bothTests, askingTests, refusedPlace, placeIn, placed, placeAt}
+use Rattle.state.specs.Asking.{placeOf}
 use Rattle.state.specs.Steps.{markDue, placeAndOne, originOf, placedBy}
 use Rattle.state.specs.declared.mention.Mark.{Mark}
 use Rattle.state.specs.declared.anchor.Start.{Start}
 use Rattle.state.specs.declared.question.Place.{Place}
 use Rattle.state.specs.declared.question.Place.the-variants as place
 use Rattle.state.proofs.Slices.{view-key, slices-length, rising-records, sound-rising, slice-at}
-use Rattle.state.proofs.Written.{view-bytes}
-use Rattle.state.proofs.Settled.{sliceHere, sliceNo, anchorBy, known-valid, origin-most, Begun}
-use Rattle.state.proofs.Filled.{over-last, under-last}
+use Rattle.state.proofs.RecordProperties.{view-bytes}
+use Rattle.state.proofs.OnePass.{sliceHere, sliceNo, anchorBy, known-valid, origin-most, Begun}
+use Rattle.state.proofs.StateRecord.{over-last, under-last}
 
 -- where property n begins in record i
 abbrev pub propertyPlace : List ℕ → ℕ → ℕ → ℕ
 propertyPlace t n i = 32 + i * recordSize (strideOf t) + 32 + n * strideOf t
 
-module _ (t : List ℕ) (roomy : countOf t ≤ roomOf (recordSize (strideOf t)) t) (up : Rising sliceKey keyLess sameKey (slicesOf t)) (n : ℕ) where
+module _ (t : List ℕ) (roomy : countOf t ≤ roomOf (recordSize (strideOf t)) t) (up : Rising sliceKey keyLess sameKey (slicesOf t))
+    (n : ℕ) where
   abbrev stride : ℕ
   stride = strideOf t
 
@@ -68,10 +70,13 @@ module _ (t : List ℕ) (roomy : countOf t ≤ roomOf (recordSize (strideOf t)) 
   pub place-here : (i : ℕ) → i < countOf t → placeIn t n (sliceHere t i) ≡ propertyPlace t n i
   unfolding placeIn
   place-here i h =
-      ap (λ k. 32 + first (λ r. sameKey (keyOf r) k) records * size + 32 + n * stride) (view-key stride (recordAt size i t) ∙ ap keyOf (record-is size t i h roomy))
-      ∙ ap (λ i. propertyPlace t n i) (first-rising keyOf keyLess sameKey key-order records (rising-records t up) i [] (omega (arith, records-length size t)))
+      ap (λ k. 32 + first (λ r. sameKey (keyOf r) k) records * size + 32 + n * stride)
+      (view-key stride (recordAt size i t) ∙ ap keyOf (record-is size t i h roomy))
+      ∙ ap (λ i. propertyPlace t n i)
+      (first-rising keyOf keyLess sameKey key-order records (rising-records t up) i [] (omega (arith, records-length size t)))
 
-  slice-place : (d : Slice) → In d (slicesOf t) → (i : ℕ) × (i < countOf t) × (d ≡ sliceHere t i) × (placeIn t n d ≡ propertyPlace t n i)
+  slice-place : (d : Slice) → In d (slicesOf t)
+      → (i : ℕ) × (i < countOf t) × (d ≡ sliceHere t i) × (placeIn t n d ≡ propertyPlace t n i)
   slice-place d m =
       let (i, h, e) = in-at (slicesOf t) d d m in
       let low : i < countOf t = omega (arith, slices-length t) in
@@ -85,7 +90,8 @@ module _ (t : List ℕ) (roomy : countOf t ≤ roomOf (recordSize (strideOf t)) 
         omega (arith, e, record-fits size t i (omega arith), piece-within stride n 8 h)
 
     -- the bytes there are those that the slice says
-    pub place-bytes : mentions n d ≡ true → propertyBytes stride (getD (d .properties) n unmentioned) ≡ take stride (drop (placeIn t n d) t)
+    pub place-bytes : mentions n d ≡ true
+        → propertyBytes stride (getD (d .properties) n unmentioned) ≡ take stride (drop (placeIn t n d) t)
     unfolding recordAt
     place-bytes y =
         let (i, low, own, e) = slice-place d m in
@@ -112,11 +118,14 @@ begun-line : (since t : Instant) (p : List ℕ) (s : Start) → Begun since t p 
 unfolding line
 begun-line since t p s begun = ap (lineFrom t (slicesOf p)) (begun .anchored) ∙ go (s .based)
   where
-    go : (b : Bool) → lineFrom t (slicesOf p) (anchorBy b (sliceHere p (s .place))) ≡ sliceHere p (s .place) ∷ following t (slicesOf p) (anchorBy b (sliceHere p (s .place)))
+    go : (b : Bool)
+        → lineFrom t (slicesOf p) (anchorBy b (sliceHere p (s .place))) ≡ sliceHere p (s .place)
+        ∷ following t (slicesOf p) (anchorBy b (sliceHere p (s .place)))
     go true = refl
     go false = refl
 
-module _ (t : Instant) (o : List ℕ) (roomy : countOf o ≤ roomOf (recordSize (strideOf o)) o) (up : Rising sliceKey keyLess sameKey (slicesOf o)) (n : ℕ) (h : n < 8)
+module _ (t : Instant) (o : List ℕ) (roomy : countOf o ≤ roomOf (recordSize (strideOf o)) o)
+    (up : Rising sliceKey keyLess sameKey (slicesOf o)) (n : ℕ) (h : n < 8)
     (k : ℕ) (is : k ≡ placeAndOne (latestValid n t (slicesOf o))) where
   pub over-none : k ≡ 0 → lastMention n (passing t (slicesOf o)) ≡ none
   over-none = none-told o n (passing t (slicesOf o)) k (over-last t o roomy up n h k is)
@@ -124,7 +133,8 @@ module _ (t : Instant) (o : List ℕ) (roomy : countOf o ≤ roomOf (recordSize 
   pub over-one : (i : ℕ) → k ≡ i + 1 → (lastMention n (passing t (slicesOf o)) ≡ some (sliceHere o i)) × (i < countOf o)
   over-one = one-told o n (passing t (slicesOf o)) k (over-last t o roomy up n h k is) (known-valid t o roomy n k is)
 
-module _ (since t : Instant) (p : List ℕ) (roomy : countOf p ≤ roomOf (recordSize (strideOf p)) p) (up : Rising sliceKey keyLess sameKey (slicesOf p)) (s : Start) (begun : Begun since t p s) (n : ℕ) (h : n < 8)
+module _ (since t : Instant) (p : List ℕ) (roomy : countOf p ≤ roomOf (recordSize (strideOf p)) p)
+    (up : Rising sliceKey keyLess sameKey (slicesOf p)) (s : Start) (begun : Begun since t p s) (n : ℕ) (h : n < 8)
     (m : Mark) (is : m ≡ markDue (latestDue n since t (slicesOf p))) where
   abbrev k : ℕ
   k = originOf s (tells n (sliceHere p (s .place))) m
@@ -136,36 +146,49 @@ module _ (since t : Instant) (p : List ℕ) (roomy : countOf p ≤ roomOf (recor
   under-none = none-told p n (line t (slicesOf p)) k line-last
 
   pub under-one : (i : ℕ) → k ≡ i + 1 → (lastMention n (line t (slicesOf p)) ≡ some (sliceHere p i)) × (i < countOf p)
-  under-one = one-told p n (line t (slicesOf p)) k line-last (origin-most since t p roomy s (tells n (sliceHere p (s .place))) n m (begun .place) is)
+  under-one =
+      one-told p n (line t (slicesOf p)) k line-last
+      (origin-most since t p roomy s (tells n (sliceHere p (s .place))) n m (begun .place) is)
 
-module _ (since t : Instant) (p o : List ℕ) (roomy : countOf p ≤ roomOf (recordSize (strideOf p)) p) (up : Rising sliceKey keyLess sameKey (slicesOf p))
-    (roomy' : countOf o ≤ roomOf (recordSize (strideOf o)) o) (up' : Rising sliceKey keyLess sameKey (slicesOf o)) (s : Start) (begun : Begun since t p s) (n : ℕ) (h : n < 8)
-    (under : Mark) (is : under ≡ markDue (latestDue n since t (slicesOf p))) (over : ℕ) (is' : over ≡ placeAndOne (latestValid n t (slicesOf o))) where
+module _ (since t : Instant) (p o : List ℕ) (roomy : countOf p ≤ roomOf (recordSize (strideOf p)) p)
+    (up : Rising sliceKey keyLess sameKey (slicesOf p))
+    (roomy' : countOf o ≤ roomOf (recordSize (strideOf o)) o) (up' : Rising sliceKey keyLess sameKey (slicesOf o)) (s : Start)
+    (begun : Begun since t p s) (n : ℕ) (h : n < 8)
+    (under : Mark) (is : under ≡ markDue (latestDue n since t (slicesOf p))) (over : ℕ)
+    (is' : over ≡ placeAndOne (latestValid n t (slicesOf o))) where
   abbrev from : ℕ
   from = originOf s (tells n (sliceHere p (s .place))) under
 
-  at-known : placeAt p o t n (permanentAt t (slicesOf p)) ≡ placed p o n (lastMention n (passing t (slicesOf o))) (lastMention n (line t (slicesOf p)))
+  at-known : placeAt p o t n (permanentAt t (slicesOf p)) ≡ placed p o n (lastMention n (passing t (slicesOf o)))
+      (lastMention n (line t (slicesOf p)))
   at-known = ap (placeAt p o t n) (begun .state)
 
   pub placed-temporary : 0 < over → placeAt p o t n (permanentAt t (slicesOf p)) ≡ place.Temporary (propertyPlace o n (over - 1))
   placed-temporary y =
       let (e, low) = over-one t o roomy' up' n h over is' (over - 1) (omega arith) in
-      at-known ∙ ap (λ d. placed p o n d (lastMention n (line t (slicesOf p)))) e ∙ ap place.Temporary (place-here o roomy' up' n (over - 1) low)
+      at-known ∙ ap (λ d. placed p o n d (lastMention n (line t (slicesOf p)))) e
+      ∙ ap place.Temporary (place-here o roomy' up' n (over - 1) low)
 
-  pub placed-permanent : over ≡ 0 → 0 < from → placeAt p o t n (permanentAt t (slicesOf p)) ≡ place.Permanent (propertyPlace p n (from - 1))
+  pub placed-permanent : over ≡ 0 → 0 < from
+      → placeAt p o t n (permanentAt t (slicesOf p)) ≡ place.Permanent (propertyPlace p n (from - 1))
   placed-permanent z y =
       let (e, low) = under-one since t p roomy up s begun n h under is (from - 1) (omega arith) in
-      at-known ∙ (λ i. placed p o n (over-none t o roomy' up' n h over is' z i) (e i)) ∙ ap place.Permanent (place-here p roomy up n (from - 1) low)
+      at-known ∙ (λ i. placed p o n (over-none t o roomy' up' n h over is' z i) (e i))
+      ∙ ap place.Permanent (place-here p roomy up n (from - 1) low)
 
   pub placed-nowhere : over ≡ 0 → from ≡ 0 → placeAt p o t n (permanentAt t (slicesOf p)) ≡ place.Unmentioned
-  placed-nowhere z y = at-known ∙ (λ i. placed p o n (over-none t o roomy' up' n h over is' z i) (under-none since t p roomy up s begun n h under is y i))
+  placed-nowhere z y =
+      at-known ∙ (λ i. placed p o n (over-none t o roomy' up' n h over is' z i)
+      (under-none since t p roomy up s begun n h under is y i))
 
   -- what the code works out from the two marks
   pub placed-is : placedBy p o s under over n ≡ placeAt p o t n (permanentAt t (slicesOf p))
   unfolding placedBy
   placed-is =
       by-test (eqb over 0)
-      (λ y. rw y (by-test (eqb from 0) (λ z. rw z (sym (placed-nowhere (omega tests) (omega tests)))) (λ z. rw z (sym (placed-permanent (omega tests) (omega tests))))))
+      (λ y. rw y
+      (by-test (eqb from 0) (λ z. rw z (sym (placed-nowhere (omega tests) (omega tests))))
+      (λ z. rw z (sym (placed-permanent (omega tests) (omega tests))))))
       (λ y. rw y (sym (placed-temporary (omega tests))))
 
 -- ---- the place that is answered lies within its table, whatever the tables
@@ -185,17 +208,20 @@ module _ (p o : List ℕ) where
   refuse-within (x ∷ xs) v f = pick-ind Within (x .fails) (λ _. tt) (λ y. refuse-within xs v (λ q. f (y, q)))
 
   module _ (t : Instant) (n : ℕ) where
-    placed-within : checkTable Permanent p ≡ Sound → checkTable Temporary o ≡ Sound → n < 8 → (st : Standing) → Within (placeAt p o t n st)
+    placed-within : checkTable Permanent p ≡ Sound → checkTable Temporary o ≡ Sound → n < 8 → (st : Standing)
+        → Within (placeAt p o t n st)
     unfolding lastMention
     placed-within e f h (refuses k) = tt
     placed-within e f h (known u) = go (lastMention n (passing t (slicesOf o))) (lastMention n (line t (slicesOf p))) refl refl
       where
-        go : (x y : Option Slice) → lastMention n (passing t (slicesOf o)) ≡ x → lastMention n (line t (slicesOf p)) ≡ y → Within (placed p o n x y)
+        go : (x y : Option Slice) → lastMention n (passing t (slicesOf o)) ≡ x → lastMention n (line t (slicesOf p)) ≡ y
+            → Within (placed p o n x y)
         go (some d) y a b =
             place-within o (sound-table Temporary o f .roomy) (sound-rising o Temporary f) n h d
             (passing-in t (slicesOf o) d (last-in (mentions n) (passing t (slicesOf o)) d a .0) .0)
         go none (some d) a b =
-            place-within p (sound-table Permanent p e .roomy) (sound-rising p Permanent e) n h d (line-in t (slicesOf p) d (last-in (mentions n) (line t (slicesOf p)) d b .0))
+            place-within p (sound-table Permanent p e .roomy) (sound-rising p Permanent e) n h d
+            (line-in t (slicesOf p) d (last-in (mentions n) (line t (slicesOf p)) d b .0))
         go none none a b = tt
 
     within : Within (placeOf p o t n)

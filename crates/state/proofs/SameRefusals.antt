@@ -16,7 +16,8 @@ use Rattle.slice.specs.Record.{Slice}
 use Rattle.history.specs.Permanent.{Standing, refuses, known, permanentAt}
 use Rattle.history.specs.Snapshot.{passing, overlaid, snapshotAt}
 use Rattle.history.specs.Source.{line, lastMention}
-use Rattle.state.specs.Asking.{slicesOf, bothTests, misfits, writingTests, askingTests, refusedOutcome, outcomeOf, snapshotOf, refusedPlace, placed, placeAt, placeOf}
+use Rattle.state.specs.Asking.{slicesOf, bothTests, misfits, writingTests, askingTests, refusedOutcome, outcomeOf, snapshotOf}
+use Rattle.state.specs.Asking.{refusedPlace, placed, placeAt, placeOf}
 use Rattle.state.specs.declared.answer.Outcome.{Outcome}
 use Rattle.state.specs.declared.answer.Outcome.the-variants as outcome
 use Rattle.state.specs.declared.question.Place.{Place}
@@ -48,15 +49,18 @@ past : (c : Bool) (n k : ℕ) (x y : Option ℕ) → (x ≡ some k → y ≡ som
 past true n k x y f = λ e. e
 past false n k x y f = f
 
-past-all : (xs : List Test) (k : ℕ) (x y : Option ℕ) → (x ≡ some k → y ≡ some k) → refuse some xs x ≡ some k → refuse some xs y ≡ some k
+past-all : (xs : List Test) (k : ℕ) (x y : Option ℕ) → (x ≡ some k → y ≡ some k) → refuse some xs x ≡ some k
+    → refuse some xs y ≡ some k
 past-all [] k x y f = f
 past-all (a ∷ xs) k x y f = past (a .fails) (a .number) k (refuse some xs x) (refuse some xs y) (past-all xs k x y f)
 
-or-behind : (xs : List Test) (k : ℕ) (x y : Option ℕ) → refuse some xs x ≡ some k → (refuse some xs y ≡ some k) ⊎ (refuse some xs y ≡ y)
+or-behind : (xs : List Test) (k : ℕ) (x y : Option ℕ) → refuse some xs x ≡ some k
+    → (refuse some xs y ≡ some k) ⊎ (refuse some xs y ≡ y)
 or-behind [] k x y = λ _. inr refl
 or-behind (a ∷ xs) k x y = go (a .fails) (or-behind xs k x y)
   where
-    go : (c : Bool) → (refuse some xs x ≡ some k → (refuse some xs y ≡ some k) ⊎ (refuse some xs y ≡ y)) → cond c (some (a .number)) (refuse some xs x) ≡ some k
+    go : (c : Bool) → (refuse some xs x ≡ some k → (refuse some xs y ≡ some k) ⊎ (refuse some xs y ≡ y))
+        → cond c (some (a .number)) (refuse some xs x) ≡ some k
         → (cond c (some (a .number)) (refuse some xs y) ≡ some k) ⊎ (cond c (some (a .number)) (refuse some xs y) ≡ y)
     go true f e = inl e
     go false f e = f e
@@ -74,30 +78,37 @@ module _ (p t : List ℕ) (at : Instant) (n : ℕ) (h : n < 8) where
   placed-none none (some d) = refl
   placed-none none none = refl
 
-  standing-rest : (st : Standing) → outcomeRefusal (outcomeOf (overlaid (passing at (slicesOf t)) st)) ≡ placeRefusal (placeAt p t at n st)
+  standing-rest : (st : Standing)
+      → outcomeRefusal (outcomeOf (overlaid (passing at (slicesOf t)) st)) ≡ placeRefusal (placeAt p t at n st)
   standing-rest (refuses k) = refl
   standing-rest (known s) = placed-none (lastMention n (passing at (slicesOf t))) (lastMention n (line at (slicesOf p)))
 
   place-number : placeRefusal (placeOf p t at n) ≡ refuse some tests rest
   unfolding placeOf
   place-number =
-      refuse-map placeRefusal refusedPlace some (λ k. refl) (bothTests p t ++ askingTests at n) (placeAt p t at n (permanentAt at (slicesOf p)))
-      ∙ ap (λ (b : Bool). refuse some (bothTests p t ++ (test 19 b ∷ [])) rest) (ap (λ (b : Bool). isNone at || b) (le-ltb 7 n (omega arith)) ∙ or-false (isNone at))
+      refuse-map placeRefusal refusedPlace some (λ k. refl) (bothTests p t ++ askingTests at n)
+      (placeAt p t at n (permanentAt at (slicesOf p)))
+      ∙ ap (λ (b : Bool). refuse some (bothTests p t ++ (test 19 b ∷ [])) rest)
+      (ap (λ (b : Bool). isNone at || b) (le-ltb 7 n (omega arith)) ∙ or-false (isNone at))
 
   module _ (buffer : List ℕ) where
     snapshot-number : outcomeRefusal (snapshotOf p t at buffer) ≡ refuse some tests (cond (misfits p buffer) (some 23) rest)
     unfolding snapshotOf snapshotAt
     snapshot-number =
-        refuse-map outcomeRefusal refusedOutcome some (λ k. refl) (bothTests p t ++ writingTests p at buffer) (outcomeOf (snapshotAt at (slicesOf p) (slicesOf t)))
+        refuse-map outcomeRefusal refusedOutcome some (λ k. refl) (bothTests p t ++ writingTests p at buffer)
+        (outcomeOf (snapshotAt at (slicesOf p) (slicesOf t)))
         ∙ refuse-join some (bothTests p t) (writingTests p at buffer) _
         ∙ sym (refuse-join some (bothTests p t) (test 19 (isNone at) ∷ []) _)
-        ∙ ap (λ (x : Option ℕ). refuse some tests (cond (misfits p buffer) (some 23) x)) (standing-rest (permanentAt at (slicesOf p)))
+        ∙ ap (λ (x : Option ℕ). refuse some tests (cond (misfits p buffer) (some 23) x))
+        (standing-rest (permanentAt at (slicesOf p)))
 
     -- what refuses the snapshot, the buffer apart, refuses the property
     pub place-refused-too : (k : ℕ) → (k ≡ 23 → ⊥) → snapshotOf p t at buffer ≡ refusedOutcome k → placeOf p t at n ≡ refusedPlace k
     place-refused-too k other e =
         place-refused (placeOf p t at n) k
-        (place-number ∙ past-all tests k (cond (misfits p buffer) (some 23) rest) rest (not-23 (misfits p buffer)) (sym snapshot-number ∙ ap outcomeRefusal e))
+        (place-number
+        ∙ past-all tests k (cond (misfits p buffer) (some 23) rest) rest (not-23 (misfits p buffer))
+        (sym snapshot-number ∙ ap outcomeRefusal e))
       where
         not-23 : (m : Bool) → cond m (some 23) rest ≡ some k → rest ≡ some k
         not-23 true q = absurd (other (sym (Option·some-injective 23 k q)))
@@ -105,17 +116,22 @@ module _ (p t : List ℕ) (at : Instant) (n : ℕ) (h : n < 8) where
 
     -- and what refuses the property refuses the snapshot, unless the buffer does
     pub snapshot-refused-too : (k : ℕ) → placeOf p t at n ≡ refusedPlace k
-        → (snapshotOf p t at buffer ≡ refusedOutcome k) ⊎ ((misfits p buffer ≡ true) × (snapshotOf p t at buffer ≡ refusedOutcome 23))
+        → (snapshotOf p t at buffer ≡ refusedOutcome k)
+        ⊎ ((misfits p buffer ≡ true) × (snapshotOf p t at buffer ≡ refusedOutcome 23))
     snapshot-refused-too k e = go (misfits p buffer) refl
       where
         so : refuse some tests rest ≡ some k
         so = sym place-number ∙ ap placeRefusal e
 
-        number : (m : Bool) → misfits p buffer ≡ m → outcomeRefusal (snapshotOf p t at buffer) ≡ refuse some tests (cond m (some 23) rest)
+        number : (m : Bool) → misfits p buffer ≡ m
+            → outcomeRefusal (snapshotOf p t at buffer) ≡ refuse some tests (cond m (some 23) rest)
         number m q = snapshot-number ∙ ap (λ (b : Bool). refuse some tests (cond b (some 23) rest)) q
 
-        go : (m : Bool) → misfits p buffer ≡ m → (snapshotOf p t at buffer ≡ refusedOutcome k) ⊎ ((misfits p buffer ≡ true) × (snapshotOf p t at buffer ≡ refusedOutcome 23))
+        go : (m : Bool) → misfits p buffer ≡ m
+            → (snapshotOf p t at buffer ≡ refusedOutcome k)
+            ⊎ ((misfits p buffer ≡ true) × (snapshotOf p t at buffer ≡ refusedOutcome 23))
         go true q =
-            ⊎-elim (λ r. inl (outcome-refused (snapshotOf p t at buffer) k (number true q ∙ r))) (λ r. inr (q, outcome-refused (snapshotOf p t at buffer) 23 (number true q ∙ r)))
+            ⊎-elim (λ r. inl (outcome-refused (snapshotOf p t at buffer) k (number true q ∙ r)))
+            (λ r. inr (q, outcome-refused (snapshotOf p t at buffer) 23 (number true q ∙ r)))
             (or-behind tests k rest (some 23) so)
         go false q = inl (outcome-refused (snapshotOf p t at buffer) k (number false q ∙ so))

@@ -20,11 +20,13 @@ use Rattle.table.specs.Arriving.{recordOf, arrivedAt}
 use Rattle.table.specs.declared.check.Sides.{Sides}
 use Rattle.table.specs.declared.check.Sides.the-variants.{Both}
 use Rattle.table.proofs.Sound.{SoundTable, sound-table}
-use Rattle.table.proofs.Kept.{Alike, same-letters, same-side, same-version, same-reserved, written-alike, written-records}
+use Rattle.table.proofs.SameHeader.{Alike, same-letters, same-side, same-version, same-reserved, written-alike}
+use Rattle.table.proofs.SameHeader.{written-records}
 use Rattle.table.proofs.Stays.{good-sized, within, few, stays, made, Filed, left-or-filed}
 
 -- ---- two sound tables that agree in their headers, the count apart, answer the check alike
-module _ (sides : Sides) (t u : List ℕ) (a : Alike t u) (h : SoundTable (strideOf t) Both t) (k : SoundTable (strideOf u) Both u) where
+module _ (sides : Sides) (t u : List ℕ) (a : Alike t u) (h : SoundTable (strideOf t) Both t)
+    (k : SoundTable (strideOf u) Both u) where
   same-tests : tableTests (strideOf u) sides u ≡ tableTests (strideOf t) sides t
   unfolding tableTests
   same-tests i =
@@ -51,13 +53,15 @@ module _ (t s : List ℕ) (f : Filed t s) where
   filed-tests : (sides : Sides) → tableTests (strideOf (arrivedAt t s)) sides (arrivedAt t s) ≡ tableTests stride sides t
   filed-tests sides =
       ap (λ (u : List ℕ). tableTests (strideOf u) sides u) (f .writes)
-      ∙ same-tests sides t (written t (made t s)) filed-alike h (stays stride Both t h (made t s) (f .keeps .all) (f .keeps .fits) (f .keeps .up))
+      ∙ same-tests sides t (written t (made t s)) filed-alike h
+      (stays stride Both t h (made t s) (f .keeps .all) (f .keeps .fits) (f .keeps .up))
 
   filed-records : recordsOf (recordSize stride) (arrivedAt t s) ≡ made t s
   filed-records =
       ap (recordsOf (recordSize stride)) (f .writes)
       ∙ written-records t (made t s) (h .headed) (within stride Both t h (made t s) (f .keeps .all) (f .keeps .fits))
-      (few stride Both t h (made t s) (f .keeps .all) (f .keeps .fits)) (recordSize stride) (good-sized stride (sideOf t) (made t s) (f .keeps .all))
+      (few stride Both t h (made t s) (f .keeps .all) (f .keeps .fits)) (recordSize stride)
+      (good-sized stride (sideOf t) (made t s) (f .keeps .all))
 
 -- ---- any arrival
 module _ (t s : List ℕ) where
@@ -67,10 +71,12 @@ module _ (t s : List ℕ) where
   -- the number of bytes, and the header but for the count
   pub arrival-alike : Alike t (arrivedAt t s)
   arrival-alike =
-      ⊎-elim (λ e. rw e (record { long = refl; front = refl; back = refl })) (λ f. rw (f .writes) (filed-alike t s f)) (left-or-filed t s)
+      ⊎-elim (λ e. rw e (record { long = refl; front = refl; back = refl })) (λ f. rw (f .writes) (filed-alike t s f))
+      (left-or-filed t s)
 
   -- every test of the check, for the sides that a call takes
-  pub arrival-tests : (sides : Sides) → tableTests (strideOf (arrivedAt t s)) sides (arrivedAt t s) ≡ tableTests (strideOf t) sides t
+  pub arrival-tests : (sides : Sides)
+      → tableTests (strideOf (arrivedAt t s)) sides (arrivedAt t s) ≡ tableTests (strideOf t) sides t
   arrival-tests sides =
       ⊎-elim (λ e. ap (λ (u : List ℕ). tableTests (strideOf u) sides u) e) (λ f. filed-tests t s f sides) (left-or-filed t s)
 

@@ -15,7 +15,7 @@ use Rattle.octets.specs.Writing.{bytesOf}
 use Rattle.octets.proofs.Readers.{be-whole}
 use Rattle.octets.proofs.Runs.{each-same}
 use Rattle.table.specs.Header.{lettered, sideOf, versionOf, countOf, featureOf, roomOf, recordsOf, counting, written}
-use Rattle.table.proofs.Written.{counting-length}
+use Rattle.table.proofs.TableBytes.{counting-length}
 
 -- ---- tables that agree in their headers, the count apart
 pub record Alike (t u : List ℕ) : Type 0 where
@@ -30,7 +30,8 @@ module _ (t u : List ℕ) (a : Alike t u) where
   back-byte : (i : ℕ) → 8 ≤ i → i < 32 → byteOf u i ≡ byteOf t i
   back-byte i low high =
       let e : 8 + (i - 8) ≡ i = omega arith in
-      let at : (l : List ℕ) → byteOf (take 24 (drop 8 l)) (i - 8) ≡ byteOf l i = λ l. getD-take 24 (drop 8 l) (i - 8) 0 (omega arith) ∙ getD-drop 8 l (i - 8) 0 ∙ ap (byteOf l) e in
+      let at : (l : List ℕ) → byteOf (take 24 (drop 8 l)) (i - 8) ≡ byteOf l i =
+      λ l. getD-take 24 (drop 8 l) (i - 8) 0 (omega arith) ∙ getD-drop 8 l (i - 8) 0 ∙ ap (byteOf l) e in
       sym (at u) ∙ ap (λ (l : List ℕ). byteOf l (i - 8)) (a .back) ∙ at t
 
   pub same-letters : lettered u ≡ lettered t
@@ -50,13 +51,15 @@ module _ (t u : List ℕ) (a : Alike t u) where
   module _ (h : 32 ≤ length t) where
     pub same-version : versionOf u ≡ versionOf t
     same-version =
-        be-whole 2 u 4 (omega (arith, a .long)) ∙ rw (front-byte 4 (omega arith), front-byte 5 (omega arith)) (sym (be-whole 2 t 4 (omega arith)))
+        be-whole 2 u 4 (omega (arith, a .long))
+        ∙ rw (front-byte 4 (omega arith), front-byte 5 (omega arith)) (sym (be-whole 2 t 4 (omega arith)))
 
     pub same-reserved : filled 0 8 u 24 ≡ filled 0 8 t 24
     unfolding filled
     same-reserved =
         rw (a .long) (ap (λ (b : Bool). leb (24 + 8) (length t) && b)
-        (each-same (λ i. eqb (byteOf u i) 0) (λ i. eqb (byteOf t i) 0) 8 24 (λ i l. ap (λ (x : ℕ). eqb x 0) (back-byte (24 + i) (omega arith) (omega arith)))))
+        (each-same (λ i. eqb (byteOf u i) 0) (λ i. eqb (byteOf t i) 0) 8 24
+        (λ i l. ap (λ (x : ℕ). eqb x 0) (back-byte (24 + i) (omega arith) (omega arith)))))
 
 -- what is written goes by the header and by what lies beyond
 over : (t u : List ℕ) (us : List (List ℕ)) → take 6 u ≡ take 6 t → take 24 (drop 8 u) ≡ take 24 (drop 8 t)
@@ -84,7 +87,8 @@ module _ (t : List ℕ) (rs : List (List ℕ)) (h : 32 ≤ length t) (fits : 32 
   written-alike = record {
     long = rw split (simp (length-append, length-take, length-drop) (omega arith));
     front = rw split (take-at (take 6 t) behind 6 six);
-    back = rw (split, drop-past (take 6 t) behind 6 2 six) (take-at (take 24 (drop 8 t)) beyond 24 (length-take-le 24 (drop 8 t) (rw (length-drop 8 t) (omega arith))));
+    back = rw (split, drop-past (take 6 t) behind 6 2 six)
+        (take-at (take 24 (drop 8 t)) beyond 24 (length-take-le 24 (drop 8 t) (rw (length-drop 8 t) (omega arith))));
   }
 
   pub written-behind : drop 32 (written t rs) ≡ beyond
