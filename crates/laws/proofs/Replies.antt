@@ -16,6 +16,6 @@ pub refusal-apart : (n k v : ℕ) → refusedWith n ≡ acceptedAs k v → ⊥
 refusal-apart n k v e = subst (λ r. Refusing r) e tt
 
 -- numbers from which every answer is read back lose nothing
-pub lossless : {A N : Type 0} (numbers : A → N) (back : N → A) → ((a : A) → back (numbers a) ≡ a) → (a b : A)
-    → numbers a ≡ numbers b → a ≡ b
+pub lossless : {A N : Type 0} (numbers : A → N) (back : N → A) → ((a : A) → back (numbers a) ≡ a)
+    → (a b : A) → numbers a ≡ numbers b → a ≡ b
 lossless numbers back reads a b e = sym (reads a) ∙ ap back e ∙ reads b

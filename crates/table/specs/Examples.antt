@@ -3,12 +3,11 @@ use Prim.Native.Nat.{ℕ, suc}
 use mathlib.Core.Path.{_≡_, refl}
 use mathlib.Core.List.{List, [], _∷_, _++_, map}
 use lib.ListN.{take, drop, replicate}
+use Rattle.laws.specs.Replies.{Reply, acceptedAs}
 use Rattle.slice.specs.Record.{tempdelta, temporary}
 use Rattle.table.specs.Header.{headerOf}
-use Rattle.table.specs.Arriving.{created, refusedArrival, recordOf, arrivalOf, arrivedAt, arriving}
+use Rattle.table.specs.Arriving.{created, refusedArrival, recordOf, arrivalOf, arrivalReply, arrivedAt, arriving}
 use Rattle.table.specs.declared.create.Creation.the-variants.{Made}
-use Rattle.table.specs.declared.arrival.Arrival.{Arrival}
-use Rattle.table.specs.declared.arrival.Arrival.the-variants.{Added, Replaced, Superseded, Repeat}
 
 abbrev feature : List ℕ
 feature = replicate 16 7
@@ -40,8 +39,11 @@ pub record Case : Type 0 where
 abbrev case : List ℕ → List ℕ → Case
 case t s = record { lent = t; slice = s }
 
-abbrev answer : Case → Arrival
-answer c = arrivalOf (c .lent) (c .slice)
+abbrev answer : Case → Reply
+answer c = arrivalReply (arrivalOf (c .lent) (c .slice))
+
+abbrev refused : ℕ → Reply
+refused n = arrivalReply (refusedArrival n)
 
 abbrev cases : List Case
 cases =
@@ -67,22 +69,22 @@ cases =
 -- out of order; a slice that is short; another feature; a new slice; the same again; with other bytes; a higher correction;
 -- another key in a full table; in one with room; a change again that a higher correction has cancelled
 pub edges : map answer cases
-    ≡ refusedArrival 1
-    ∷ refusedArrival 2
-    ∷ refusedArrival 3
-    ∷ refusedArrival 4
-    ∷ refusedArrival 5
-    ∷ refusedArrival 6
-    ∷ refusedArrival 7
-    ∷ refusedArrival 9
-    ∷ refusedArrival 10
-    ∷ Added
-    ∷ Repeat
-    ∷ refusedArrival 17
-    ∷ Replaced
-    ∷ refusedArrival 18
-    ∷ Added
-    ∷ Superseded
+    ≡ refused 1
+    ∷ refused 2
+    ∷ refused 3
+    ∷ refused 4
+    ∷ refused 5
+    ∷ refused 6
+    ∷ refused 7
+    ∷ refused 9
+    ∷ refused 10
+    ∷ acceptedAs 1 0
+    ∷ acceptedAs 4 0
+    ∷ refused 17
+    ∷ acceptedAs 2 0
+    ∷ refused 18
+    ∷ acceptedAs 1 0
+    ∷ acceptedAs 3 0
     ∷ []
 unfolding arriving
 edges = refl
