@@ -5,7 +5,7 @@ use crate::looking::Touched;
 use crate::looking::look_down;
 use numbers::Instant;
 use slice::Checked;
-use slice::Refusal;
+use slice::refusals;
 use table::Sides;
 use table::check_table;
 
@@ -19,7 +19,7 @@ pub fn touched(temporary: &[u8], instant: Instant, property: u8) -> Touched
         return Touched::Refused(refusal);
     }
     if instant.is_none() | (7 < property) {
-        return Touched::Refused(Refusal { number: 19 });
+        return Touched::Refused(refusals::INSTANT_OR_PROPERTY);
     }
     look_down(temporary, instant, property as usize)
 }

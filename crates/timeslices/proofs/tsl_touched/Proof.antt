@@ -1,6 +1,5 @@
 -- `timeslices::tsl_touched` meets its contract: a case for each answer. Assumes nothing.
 use mathlib.Core.Path.{_≡_, sym, ap, _∙_}
-use native.Mathlib.Omega.{arith}
 use Rattle.state.specs.Touched.{touchedOf, touchedReply}
 use Rattle.state.specs.declared.looking.Touched.{Touched}
 use Rattle.state.proofs.Replies.{touched-told}
@@ -32,11 +31,11 @@ tsl-touched-spec =
     (tie.spec
     (λ c κs. search needs)
     (λ c. search needs)
-    (λ c. omega (arith, yes-few _ _ _ _ (is-defined (c .before .before .before) _ (c .before .looked .given .1))))
+    (λ c κs. yes-few _ _ _ _ (is-defined (c .before .before .before) _ (c .before .looked .given .1)))
     (λ c. search needs)
-    (λ c. omega (arith, no-few _ _ _ _ (is-defined (c .before .before .before) _ (c .before .looked2 .given .1))))
+    (λ c κs. no-few _ _ _ _ (is-defined (c .before .before .before) _ (c .before .looked2 .given .1)))
     (λ c. search needs)
     (λ c. search needs)
-    (λ c. numbered (c .before .before .before) _ (c .before .looked .given .1))
-    (λ c. numbered (c .before .before .before) _ (c .before .looked2 .given .1))
+    (λ c. c .with-count .ensures ∙ numbered (c .before .before .before .before) _ (c .before .before .looked .given .1))
+    (λ c. c .with-count2 .ensures ∙ numbered (c .before .before .before .before) _ (c .before .before .looked2 .given .1))
     (λ c. numbered (c .before .before .before .before) _ (c .before .before .refusal .given .1)))
