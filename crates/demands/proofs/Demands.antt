@@ -1,6 +1,6 @@
 -- What is demanded of the library, over the definitions that its promises cite, each proved by citing. docs/DEMANDS.md reads this page
 -- aloud. Assumes nothing.
-use Prim.Native.Nat.{ℕ, _+_, _*_, _≤_, _<_}
+use Prim.Native.Nat.{ℕ, _+_, _*_, _-_, _≤_, _<_}
 use mathlib.Core.Path.{_≡_, refl, sym, ap, _∙_}
 use mathlib.Core.List.{List, [], map}
 use mathlib.Core.Bool.{true}
@@ -28,12 +28,15 @@ use Rattle.table.proofs.Stays.{still-sound}
 use Rattle.table.proofs.AnyOrder.{of-set, afresh-is, only-afresh}
 use Rattle.history.specs.Snapshot.{valid}
 use Rattle.state.specs.Asking.{slicesOf, misfits, permanentStateOf, snapshotOf, outcomeReply, placeOf, placeReply, sourceOf, sourceReply, handed, Tells, afterState, afterSnapshot, refusedOutcome, refusedPlace}
+use Rattle.state.specs.Touched.{touchedOf, touchedReply, AnsweredBy, SameTouched}
 use Rattle.state.specs.Reach.{Reached, SameState, SameSnapshot, SameProperty}
 use Rattle.state.specs.declared.answer.Outcome.the-variants as outcome
 use Rattle.state.specs.declared.question.Place.the-variants as place
+use Rattle.state.specs.declared.looking.Touched.the-variants as touched
 use Rattle.state.proofs.Agrees.{property-agrees, quiet-snapshot}
 use Rattle.state.proofs.Refused.{place-refused-too, snapshot-refused-too}
-use Rattle.state.proofs.Reach.{state-changed, permanent-changed, temporary-changed, permanent-property, temporary-property}
+use Rattle.state.proofs.Touches as touches
+use Rattle.state.proofs.Reach.{state-changed, permanent-changed, temporary-changed, permanent-property, temporary-property, touched-changed}
 use Rattle.baselines.specs.Deriving.{derivedRecords, refusedDerivation, derivationOf, derivationReply, afterDeriving}
 use Rattle.baselines.specs.declared.derivation.Derivation.the-variants as derivation
 use Rattle.baselines.proofs.DerivedTable.{derived-told, derived-sound, derived-feature, derived-counts}
@@ -42,9 +45,9 @@ use Rattle.baselines.proofs.Passes as passes
 use Rattle.baselines.proofs.Passes.{derived-passes}
 use Rattle.text.specs.Listing.{listingOf, saidOf, putOf, afterPut}
 use Rattle.text.specs.declared.listing.Listing.the-variants.{Needs}
-use Rattle.demands.specs.Refused.{RefusedBy, arrivalTests, stateTests, snapshotTests, propertyTests, derivedTests}
+use Rattle.demands.specs.Refused.{RefusedBy, arrivalTests, stateTests, snapshotTests, propertyTests, touchedTests, derivedTests}
 use Rattle.demands.specs.Fourteen.{cases, answer, wanted, fourteen}
-use Rattle.demands.proofs.Numbers.{creation-numbered, arrival-numbered, state-numbered, snapshot-numbered, place-numbered, source-numbered, derived-numbered}
+use Rattle.demands.proofs.Numbers.{creation-numbered, arrival-numbered, state-numbered, snapshot-numbered, place-numbered, source-numbered, touched-numbered, derived-numbered}
 
 -- ==== DEMAND 1. Each call refuses with the number that document 01 gives, in the order it gives ...
 module _ (t s p o output buffer : List ℕ) (side n : ℕ) (at : Instant) where
@@ -66,6 +69,9 @@ module _ (t s p o output buffer : List ℕ) (side n : ℕ) (at : Instant) where
 
   pub source-refused : RefusedBy (propertyTests p o at n) (sourceReply (sourceOf (placeOf p o at n)))
   source-refused = source-numbered p o at n
+
+  pub touched-refused : RefusedBy (touchedTests o at n) (touchedReply (touchedOf o at n))
+  touched-refused = touched-numbered o at n
 
   pub derivation-refused : RefusedBy (derivedTests p output) (derivationReply (derivationOf p output))
   derivation-refused = derived-numbered p output
@@ -133,6 +139,17 @@ module _ (p o : List ℕ) (at : Instant) (buffer : List ℕ) where
       → (snapshotOf p o at buffer ≡ permanentStateOf p at buffer)
       × (afterSnapshot (snapshotOf p o at buffer) p o at buffer ≡ afterState (permanentStateOf p at buffer) p at buffer)
   quiet = quiet-snapshot p o at buffer
+
+-- Has anything temporary touched a property: yes where the property question, of the same instant and property, answers with the
+-- temporary table, no where it answers with the permanent one or "unmentioned" ...
+module _ (p o : List ℕ) (at : Instant) (n : ℕ) where
+  pub touched-agrees : AnsweredBy (placeOf p o at n) (touchedOf o at n)
+  touched-agrees = touches.touched-agrees p o at n
+
+  -- ... and the part that the question then hands back lies in the record at which `looked` records were looked at, from the end
+  pub touched-part : (k looked : ℕ) → placeOf p o at n ≡ place.Temporary k → touchedOf o at n ≡ touched.Yes looked
+      → k ≡ 32 + (countOf o - looked) * recordSize (strideOf o) + 32 + n * strideOf o
+  touched-part = touches.touched-part p o at n
 
 -- Derived baselines. Of a table that passes 1 to 7 each derived record passes the slice check, and so no derivation is refused with 24 ...
 module _ (p : List ℕ) (bytes : Bytes p) where
@@ -223,6 +240,10 @@ module _ (at : Instant) (p t s : List ℕ) where
 
     pub property-in-passing-reach : (SameProperty at p p t (arrivedAt t s) n → ⊥) → Reached at t s
     property-in-passing-reach = temporary-property at p t s n
+
+    -- ... and whether anything temporary has touched a property: how many records were looked at is not claimed
+    pub touched-in-reach : (SameTouched at t (arrivedAt t s) n → ⊥) → Reached at t s
+    touched-in-reach = touched-changed at t s n
 
 -- ==== The fourteen examples of document 01, from bytes: specs/Fourteen.antt has the cases and what they answer
 pub examples : map answer cases ≡ wanted

@@ -5,6 +5,7 @@ use mathlib.Core.List.{List, [], _++_}
 use mathlib.Core.Bool.{Bool, true, false, cond}
 use mathlib.Core.Option.{Option, none, some}
 use lib.ListN.{length}
+use Rattle.laws.specs.Lists.{any}
 use Rattle.laws.specs.Refusals.{Test, refuse}
 use Rattle.laws.specs.Replies.{Reply, refusedWith, acceptedAs}
 use Rattle.laws.proofs.Refusals.{refuse-join, refuse-map, number-given, given-number}
@@ -24,12 +25,15 @@ use Rattle.history.specs.State.{State}
 use Rattle.history.specs.Permanent.{Standing, refuses, known, permanentAt}
 use Rattle.history.specs.Snapshot.{passing, overlaid, snapshotAt}
 use Rattle.history.specs.Source.{line, lastMention}
+use Rattle.history.specs.Touched.{touches}
 use Rattle.state.specs.Asking.{slicesOf, permanentTests, bothTests, writingTests, askingTests, refusedOutcome, outcomeOf, outcomeReply, permanentStateOf, snapshotOf, refusedPlace, placed, placeAt, placeOf, placeReply, sourceOf, sourceReply}
+use Rattle.state.specs.Touched.{refusedTouched, touchedBy, touchedOf, touchedReply}
 use Rattle.state.specs.declared.question.Place.{Place}
 use Rattle.state.specs.declared.question.Place.the-variants as place
+use Rattle.state.specs.declared.looking.Touched.the-variants as touched
 use Rattle.baselines.specs.Deriving.{derivedRecords, refusedDerivation, derivationOf, derivationReply}
 use Rattle.baselines.specs.declared.derivation.Derivation.the-variants as derivation
-use Rattle.demands.specs.Refused.{RefusedBy, arrivalTests, standingTests, stateTests, snapshotTests, propertyTests, derivedTests}
+use Rattle.demands.specs.Refused.{RefusedBy, arrivalTests, standingTests, stateTests, snapshotTests, propertyTests, touchedTests, derivedTests}
 use Rattle.demands.proofs.Standing.{answered, standing-tests}
 
 -- ---- a call whose answer is made by tests, and then an accepted one
@@ -142,6 +146,19 @@ module _ (p t : List ℕ) (at : Instant) (n : ℕ) where
   pub source-numbered : RefusedBy (propertyTests p t at n) (sourceReply (sourceOf (placeOf p t at n)))
   unfolding sourceReply
   source-numbered = asked-numbered p t at n (λ a. sourceReply (sourceOf a)) (λ k. refl) (λ k. tt) (λ k. tt) tt
+
+-- ---- whether anything temporary touches it
+accepted-touched : (b : Bool) (k : ℕ) → Accepted (touchedReply (cond b (touched.Yes k) (touched.No k)))
+unfolding touchedReply
+accepted-touched true k = tt
+accepted-touched false k = tt
+
+pub touched-numbered : (t : List ℕ) (at : Instant) (n : ℕ) → RefusedBy (touchedTests t at n) (touchedReply (touchedOf t at n))
+unfolding touchedOf touchedBy touchedReply
+touched-numbered t at n =
+    let answer = touchedBy at n (slicesOf t) in
+    by-tests (touchedTests t at n) (touchedReply answer) _ (accepted-touched (any (touches at n) (slicesOf t)) _)
+    (refuse-map touchedReply refusedTouched refusedWith (λ n. refl) (touchedTests t at n) answer)
 
 -- ---- a derivation
 pub derived-numbered : (p output : List ℕ) → RefusedBy (derivedTests p output) (derivationReply (derivationOf p output))

@@ -12,7 +12,7 @@ use Rattle.slice.specs.Check.{sliceTests}
 use Rattle.table.specs.Header.{sideOf, featureOf, strideOf, roomOf, recordsOf}
 use Rattle.table.specs.Rules.{tableTests}
 use Rattle.table.specs.Arriving.{recordOf, filingTests}
-use Rattle.table.specs.declared.check.Sides.the-variants.{Both}
+use Rattle.table.specs.declared.check.Sides.the-variants.{Temporary, Both}
 use Rattle.history.specs.Anchor.{Anchor, based, opened, nowhere, two, anchor}
 use Rattle.history.specs.State.{started, appliedAll}
 use Rattle.history.specs.Permanent.{following, withdrawn}
@@ -64,6 +64,10 @@ snapshotTests p t at buffer = (bothTests p t ++ writingTests p at buffer) ++ sta
 -- both property questions: 1-7, 1-7, 8, 19, 21, 20, 22
 abbrev pub propertyTests : List ℕ → List ℕ → Instant → ℕ → List Test
 propertyTests p t at n = (bothTests p t ++ askingTests at n) ++ standingTests at (slicesOf p)
+
+-- has anything temporary touched a property: 1-7, 19
+abbrev pub touchedTests : List ℕ → Instant → ℕ → List Test
+touchedTests t at n = tableTests (strideOf t) Temporary t ++ askingTests at n
 
 -- derived: 1-7, 21, 24, 23
 abbrev pub derivedTests : List ℕ → List ℕ → List Test

@@ -1,5 +1,6 @@
-// What is known of a feature at an instant: its permanent state, its snapshot, and one property. Each
-// function answers for every table, instant and buffer, and none asks anything of its caller.
+// What is known of a feature at an instant: its permanent state, its snapshot, one property, and whether
+// anything temporary touches one. Each function answers for every table, instant and buffer, and none asks
+// anything of its caller.
 mod anchor;
 mod answer;
 mod looking;

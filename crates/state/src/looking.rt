@@ -31,13 +31,13 @@ pub(crate) fn look_down(temporary: &[u8], instant: Instant, n: usize) -> Touched
     let stride = stride_of(temporary);
     let size = 32 + 8 * stride;
     let count = count_of(temporary) as usize;
-    let mut i = count;
-    while 0 < i {
-        i -= 1;
-        let record = record_at(temporary, size, i);
+    let mut looked = 0;
+    while looked < count {
+        looked += 1;
+        let record = record_at(temporary, size, count - looked);
         if is_holding(record, TEMPDELTA, instant) & mentions(record, stride, n) {
-            return Touched::Yes(count - i);
+            return Touched::Yes(looked);
         }
     }
-    Touched::No(count)
+    Touched::No(looked)
 }

@@ -17,7 +17,10 @@ use Rattle.state.specs.declared.answer.Outcome.{Outcome}
 use Rattle.state.specs.declared.answer.Outcome.the-variants as outcome
 use Rattle.state.specs.declared.question.Place.{Place}
 use Rattle.state.specs.declared.question.Place.the-variants as place
-use Rattle.state.proofs.Replies.{outcome-told, place-told}
+use Rattle.state.specs.Touched.{touchedReply}
+use Rattle.state.specs.declared.looking.Touched.{Touched}
+use Rattle.state.specs.declared.looking.Touched.the-variants as touched
+use Rattle.state.proofs.Replies.{outcome-told, place-told, touched-told}
 use Rattle.baselines.specs.Deriving.{derivationReply}
 use Rattle.baselines.specs.declared.derivation.Derivation.{Derivation}
 use Rattle.baselines.specs.declared.derivation.Derivation.the-variants as derivation
@@ -94,6 +97,17 @@ outcome-counted (outcome.Refused f) = tt
 -- and outcomes
 pub outcome-crosses : (a b : Outcome) → numbersOf (outcomeReply a) ≡ numbersOf (outcomeReply b) → a ≡ b
 outcome-crosses a b e = outcome-told a b (numbers-told _ _ (outcome-counted a) (outcome-counted b) e)
+
+-- ---- whether anything temporary touches a property
+touched-counted : (a : Touched) → Counted (touchedReply a)
+unfolding touchedReply
+touched-counted (touched.Yes n) = tt
+touched-counted (touched.No n) = tt
+touched-counted (touched.Refused f) = tt
+
+-- and answers of yes and no, with their counts
+pub touched-crosses : (a b : Touched) → numbersOf (touchedReply a) ≡ numbersOf (touchedReply b) → a ≡ b
+touched-crosses a b e = touched-told a b (numbers-told _ _ (touched-counted a) (touched-counted b) e)
 
 -- ---- a derivation
 derivation-counted : (a : Derivation) → Counted (derivationReply a)

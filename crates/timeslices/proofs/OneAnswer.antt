@@ -11,9 +11,11 @@ use Rattle.timeslices.proofs.tsl_permanent_state.Reads as tsl-permanent
 use Rattle.timeslices.proofs.tsl_snapshot.Kinds as tsl-snapshot-k
 use Rattle.timeslices.proofs.tsl_snapshot.Reads as tsl-snapshot
 use Rattle.timeslices.proofs.tsl_property.Kinds as tsl-property-k
+use Rattle.timeslices.proofs.tsl_touched.Kinds as tsl-touched-k
 use Rattle.timeslices.proofs.tsl_derive.Kinds as tsl-derive-k
 use Rattle.timeslices.proofs.tsl_listing.Kinds as tsl-listing-k
 use Rattle.timeslices.proofs.tsl_property.Reads as tsl-property
+use Rattle.timeslices.proofs.tsl_touched.Reads as tsl-touched
 use Rattle.timeslices.proofs.tsl_derive.Reads as tsl-derive
 use Rattle.timeslices.proofs.tsl_listing.Reads as tsl-listing
 
@@ -31,6 +33,9 @@ tsl-snapshot-one κs a = (tt, λ z z' ws ws' p q. (same (p .0) (q .0), both refl
 
 pub tsl-property-one : OneAnswer tsl-property-k.ps tsl-property-k.r tsl-property.Asked tsl-property.Learnt
 tsl-property-one κs a = (tt, λ z z' ws ws' p q. (same p q, refl))
+
+pub tsl-touched-one : OneAnswer tsl-touched-k.ps tsl-touched-k.r tsl-touched.Asked tsl-touched.Learnt
+tsl-touched-one κs a = (tt, λ z z' ws ws' p q. (same p q, refl))
 
 pub tsl-derive-one : OneAnswer tsl-derive-k.ps tsl-derive-k.r tsl-derive.Asked tsl-derive.Learnt
 tsl-derive-one κs a = (tt, λ z z' ws ws' p q. (same (p .0) (q .0), both refl (both (same (p .1) (q .1)) refl)))

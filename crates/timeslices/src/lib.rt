@@ -1,9 +1,12 @@
 // The interface for C: each answer of the library as numbers. Nothing is asked of the caller beyond
 // memory that is there. include/timeslices.h says the same in C.
 ghost use mathlib.Core.Path.{_≡_};
+ghost use Prim.Native.Nat.{_≤_};
+ghost use Rattle.laws.specs.Replies.{acceptedAs};
 ghost use Rattle.table.specs.Header.{strideOf};
 ghost use Rattle.table.specs.Arriving.{creationOf, creationReply, created, arrivalOf, arrivalReply, arrivedAt};
 ghost use Rattle.state.specs.Asking.{permanentStateOf, snapshotOf, outcomeReply, afterState, afterSnapshot, placeOf, placeReply};
+ghost use Rattle.state.specs.Touched.{touchedOf, touchedReply};
 ghost use Rattle.baselines.specs.Deriving.{derivationOf, derivationReply, afterDeriving};
 ghost use Rattle.timeslices.specs.Answers.{instantOf, numbersOf, partAt, partOf};
 ghost use Rattle.text.specs.Listing.{listingOf, putOf, listingReply, afterPut};
@@ -12,9 +15,11 @@ use baselines::derive;
 use numbers::Instant;
 use state::Outcome;
 use state::Place;
+use state::Touched;
 use state::locate;
 use state::permanent_state;
 use state::snapshot;
+use state::touched;
 use table::Arrival;
 use table::Creation;
 use table::arrive;
@@ -152,6 +157,33 @@ pub extern "C" fn tsl_property(
             number: refusal.number as u32,
             at: 0,
             size: 0,
+        },
+    }
+}
+
+// An answer of a kind, with how many records were looked at.
+fn with_count(kind: u32, looked: usize) -> Answer
+    requires { ⌜ looked ≤ 256 ⌝ }
+    ensures { λ r. ⌜ r ≡ numbersOf (acceptedAs kind looked) ⌝ }
+{
+    Answer {
+        kind,
+        number: looked as u32,
+    }
+}
+
+// Whether anything temporary has touched a property at an instant: 1 yes, 2 no, and how many records were
+// looked at, from the last downward. Refused: 1 to 7 and 19.
+#[no_mangle]
+pub extern "C" fn tsl_touched(temporary: &[u8], instant: u32, property: u8) -> Answer
+    ensures { λ r. ⌜ r ≡ numbersOf (touchedReply (touchedOf (now (temporary .entry)) (instantOf instant) property)) ⌝ }
+{
+    match touched(temporary, Instant(instant), property) {
+        Touched::Yes(looked) => with_count(1, looked),
+        Touched::No(looked) => with_count(2, looked),
+        Touched::Refused(refusal) => Answer {
+            kind: 0,
+            number: refusal.number as u32,
         },
     }
 }

@@ -26,10 +26,11 @@ use Rattle.state.proofs.looking.look_down.Statement.{statement}
 use Rattle.state.proofs.looking.look_down.Tie as tie
 
 abbrev Inv-loop : tie.InvT-loop
-Inv-loop temporary instant n stride size count i₀ i = (i ≤ count) × (any (touches instant n) (drop i (slicesOf temporary)) ≡ false)
+Inv-loop temporary instant n stride size count looked₀ looked =
+    (looked ≤ count) × (any (touches instant n) (drop (count - looked) (slicesOf temporary)) ≡ false)
 
 abbrev μ-loop : tie.MeasureT-loop
-μ-loop temporary instant n stride size count i₀ i = i
+μ-loop temporary instant n stride size count looked₀ looked = count - looked
 
 -- the record that a turn looks at, and the slice that it says
 module _ (k : tie.After-record-at Inv-loop μ-loop) where
@@ -39,8 +40,15 @@ module _ (k : tie.After-record-at Inv-loop μ-loop) where
   abbrev table : List ℕ
   table = start .args .temporary .now
 
+  -- how many records there are, and how many were looked at before
+  abbrev count : ℕ
+  count = k .before .before .before .count-of .result
+
+  abbrev before : ℕ
+  before = k .before .before .loop .looked
+
   abbrev place : ℕ
-  place = k .before .before .loop .i - 1
+  place = count - (before + 1)
 
   abbrev here : Slice
   here = sliceHere table place
@@ -53,7 +61,7 @@ module _ (k : tie.After-record-at Inv-loop μ-loop) where
 
   -- none behind it touches the property
   quiet : any (touches (start .args .instant) (start .args .n)) (drop (place + 1) (slicesOf table)) ≡ false
-  quiet = let e : place + 1 ≡ k .before .before .loop .i = omega arith in rw e (k .before .before .loop .inv .1)
+  quiet = let e : place + 1 ≡ count - before = omega arith in rw e (k .before .before .loop .inv .1)
 
 -- whether it does is what the code tests
 told : (v : tie.After-mentions Inv-loop μ-loop) → let k = v .before .before in
@@ -72,7 +80,7 @@ told v =
 loop-holds : tie.Need-loop-holds Inv-loop μ-loop
 loop-holds c =
     let a = c .before .before .before .args in
-    (omega arith, ap (any (touches (a .instant) (a .n))) (slices-end (a .temporary .now) (c .count-of .result) (omega arith)))
+    (omega arith, ap (any (touches (a .instant) (a .n))) (slices-end (a .temporary .now) (c .count-of .result - 0) (omega arith)))
 
 loop-again : tie.Need-loop-again Inv-loop μ-loop
 loop-again c =
@@ -84,15 +92,17 @@ returns : tie.Need-returns Inv-loop μ-loop
 returns c =
     let k = c .before .before .before in
     let a = start k .args in
-    ap (λ m. Yes (m - place k)) (k .before .before .before .count-of .ensures)
+    let e : before k + 1 ≡ countOf (table k) - place k = omega arith in
+    ap Yes e
     ∙ found-here (table k) (start k .pre .0) (a .instant) (a .n) (place k) (below k) (quiet k) (sym (told (c .before)) ∙ c .if1 .taken)
 
 returns-2 : tie.Need-returns-2 Inv-loop μ-loop
 returns-2 c =
     let s = c .before .before .before .before .before in
-    let e : c .before .loop .i ≡ 0 = omega arith in
-    ap No (c .before .before .count-of .ensures)
-    ∙ found-nowhere (s .args .temporary .now) (s .pre .0) (s .args .instant) (s .args .n) (rw e at (c .before .loop .inv .1))
+    let e : c .before .loop .looked ≡ countOf (s .args .temporary .now) = omega arith in
+    let z : c .before .before .count-of .result - c .before .loop .looked ≡ 0 = omega arith in
+    ap No e
+    ∙ found-nowhere (s .args .temporary .now) (s .pre .0) (s .args .instant) (s .args .n) (rw z at (c .before .loop .inv .1))
 
 pub look-down-spec : {M : Type 1} → statement M
 look-down-spec =
@@ -107,10 +117,10 @@ look-down-spec =
     (λ c. search needs)
     loop-holds
     (λ c. omega arith)
+    (λ c. omega arith)
     (λ c κs. search needs)
     (λ c κs. search needs)
     (λ c κs. (read (c .before) .sized, start (c .before) .pre .1))
-    (λ c. omega arith)
     returns
     (λ c. omega arith)
     loop-again
