@@ -188,7 +188,8 @@ module _ (p : List ℕ) where
         begin,
         l,
         λ x m h. by-test (ltb (begin .0) (x .0))
-            (λ y. absurd (omega (tests, ap (λ (t : Instant). t .0) e, later-least (slicesOf p) (justAfter begin) x m (omega tests))))
+            (λ y. absurd
+            (omega (tests, ap (λ (t : Instant). t .0) e, later-least (slicesOf p) (justAfter begin) x m (omega tests))))
             (λ n. omega tests),
         left,
         bare,

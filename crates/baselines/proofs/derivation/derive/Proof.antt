@@ -89,7 +89,8 @@ derive-spec =
     (λ c. search needs)
     (λ c. (
       ap derivationReply
-          (table-refused _ _ _ (sym (checked-told _ _ (c .before .before .before .check-table .ensures)) ∙ c .before .refusal .given .1)),
+          (table-refused _ _ _
+          (sym (checked-told _ _ (c .before .before .before .check-table .ensures)) ∙ c .before .refusal .given .1)),
       refl,
     ))
     (λ c. search needs)

@@ -156,7 +156,10 @@ go-on-requires c κs =
         (a .ends .now, a .gones .now, q .1 .0),
         (
           q .1 .1 .0,
-          (start s .pre .1 .1 .1 .0, (holding h, (q .1 .1 .1 .0, (going t, (looped t .loop .inv .1 .0, looped t .loop .inv .1 .1))))),
+          (
+            start s .pre .1 .1 .1 .0,
+            (holding h, (q .1 .1 .1 .0, (going t, (looped t .loop .inv .1 .0, looped t .loop .inv .1 .1)))),
+          ),
         ),
       ),
     )
@@ -171,7 +174,8 @@ draw-requires c κs =
     let s = first (turning k) in
     let n : width k ≡ 224 = omega (arith, sized s) in (
       ap (λ (m : ℕ). length (take m (drop (k .place-in .result) (looped (turning k) .loop .drawn)))) n
-          ∙ length-take-le 224 (drop (k .place-in .result) (looped (turning k) .loop .drawn)) (simp length-drop (omega (arith, fits k)))
+          ∙ length-take-le 224 (drop (k .place-in .result) (looped (turning k) .loop .drawn))
+          (simp length-drop (omega (arith, fits k)))
           ∙ sym (sized s),
       kept-long k ∙ sym (sized s),
     )

@@ -62,7 +62,8 @@ loop-holds c =
             u,
             h,
             ap (appliedAll u)
-                (sym (front-still (a .permanent .now) (a .begins .now) ends gones (a .front) (s .pre .0) noted fronted (a .instant))),
+                (sym (front-still (a .permanent .now) (a .begins .now) ends gones (a .front) (s .pre .0) noted fronted
+                (a .instant))),
           ),
         ),
       ),
@@ -129,7 +130,8 @@ loop-again c =
                 applied x (viewOf (strideOf p) (recordAt (recordSize (strideOf p)) i p)),
                 rw e (turns x q),
                 sym
-                    (next-applied p (a .begins .now) ends gones (a .front) (s .pre .0) noted fronted (a .instant) late i (l .loop .inv .0)
+                    (next-applied p (a .begins .now) ends gones (a .front) (s .pre .0) noted fronted (a .instant) late i
+                    (l .loop .inv .0)
                     (inside k) x (y .taken)) ∙ f,
               ),
         ),
@@ -145,7 +147,8 @@ loop-again c =
             x,
             rw e q,
             ap (appliedAll x)
-                (sym (next-passed p (a .begins .now) ends gones (a .front) (s .pre .0) noted fronted (a .instant) late i (l .loop .inv .0)
+                (sym (next-passed p (a .begins .now) ends gones (a .front) (s .pre .0) noted fronted (a .instant) late i
+                (l .loop .inv .0)
                 (inside k) (y .left))) ∙ f,
           ),
         ),

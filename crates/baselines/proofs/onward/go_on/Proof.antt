@@ -203,7 +203,11 @@ went c =
                         before =
                             record {
                               before =
-                                  record { before = record { before = record { before = c .before; if1 = i1 }; struct-known5 = k5 }; if2 = i2 };
+                                  record {
+                                    before =
+                                        record { before = record { before = c .before; if1 = i1 }; struct-known5 = k5 };
+                                    if2 = i2;
+                                  };
                               record-size =
                                   rs;
                             };

@@ -55,7 +55,8 @@ loop-again c =
           (
             simp length-set g,
             noted-turn p (l .loop .begins) (l .loop .ends) (l .loop .gones) (l .loop .i) _ _ _ (omega arith)
-                (omega arith) (omega arith) all (ap (λ x. x .begin .0) period) (ap (λ x. x .end .0) period) (ap (λ x. x .end .0) life),
+                (omega arith) (omega arith) all (ap (λ x. x .begin .0) period) (ap (λ x. x .end .0) period)
+                (ap (λ x. x .end .0) life),
           ),
         ),
       ),

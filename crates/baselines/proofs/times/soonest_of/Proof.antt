@@ -30,7 +30,8 @@ loop-again c =
       (
         omega (arith, c .lesser .ensures, low),
         least-turn (s .args .since) _ _ _ (l .loop .soonest)
-            (w .wrapping-sub-u32 .result) _ low (l .loop .inv .1 .1) (omega arith) t (w .wrapping-sub-u32 .ensures) (c .lesser .ensures),
+            (w .wrapping-sub-u32 .result) _ low (l .loop .inv .1 .1) (omega arith) t (w .wrapping-sub-u32 .ensures)
+            (c .lesser .ensures),
       ),
     )
 

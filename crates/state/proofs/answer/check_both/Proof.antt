@@ -40,7 +40,8 @@ part-same-end-2 c =
     omega (
       arith,
       sound-table sides.Temporary
-          (c .before .before .before .before .before .before .before .before .before .args .temporary .now) (second (c .before)) .headed,
+          (c .before .before .before .before .before .before .before .before .before .args .temporary .now)
+          (second (c .before)) .headed,
     )
 
 returns-3 : tie.Need-returns-3

@@ -98,7 +98,8 @@ returns c =
     let a = start k .args in
     let e : before k + 1 ≡ countOf (table k) - place k = omega arith in
     ap Yes e
-    ∙ found-here (table k) (start k .pre .0) (a .instant) (a .n) (place k) (below k) (quiet k) (sym (told (c .before)) ∙ c .if1 .taken)
+    ∙ found-here (table k) (start k .pre .0) (a .instant) (a .n) (place k) (below k) (quiet k)
+    (sym (told (c .before)) ∙ c .if1 .taken)
 
 returns-2 : tie.Need-returns-2 Inv-loop μ-loop
 returns-2 c =

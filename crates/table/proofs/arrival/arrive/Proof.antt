@@ -63,7 +63,8 @@ returns c =
     let r = c .before in
     let k = r .before .before in (
       ap arrivalReply
-          (sym (table-refuses _ _ (r .refusal .given .0 .0) (sym (checked-told _ _ (k .check-table .ensures)) ∙ r .refusal .given .1))),
+          (sym (table-refuses _ _ (r .refusal .given .0 .0)
+          (sym (checked-told _ _ (k .check-table .ensures)) ∙ r .refusal .given .1))),
       refl,
     )
 

@@ -56,7 +56,8 @@ returns c =
       x .correct .ensures .0 ∙ ap (λ (i : ℕ). answerTo (R k) (getD (Rs k) i [])) (place k)
           ∙ sym (filing-held _ _ _ _ (held-stored _ _ held)),
       x .correct .ensures .1
-          ∙ ap (changed (x .correct .result) (T k)) (ap (λ (i : ℕ). replacedAt i (R k) (Rs k)) (place k) ∙ sym (held-filed _ _ held)),
+          ∙ ap (changed (x .correct .result) (T k))
+          (ap (λ (i : ℕ). replacedAt i (R k) (Rs k)) (place k) ∙ sym (held-filed _ _ held)),
     )
 
 returns-2 : tie.Need-returns-2

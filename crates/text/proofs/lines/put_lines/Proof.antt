@@ -66,8 +66,11 @@ loop-again c =
     let w = then (omega (arith, more r, start (first r) .pre .1)) (l .inv .2) (rw line at (p .put-line .ensures)) in (
       omega arith,
       omega arith,
-      rw
-          (lines-more (lineOf (strideOf t)) (records t) (l .i) (omega (arith, more r, records-length (recordSize (strideOf t)) t)), ← k)
+      rw (
+        lines-more (lineOf (strideOf t)) (records t) (l .i)
+            (omega (arith, more r, records-length (recordSize (strideOf t)) t)),
+        ← k,
+      )
           w,
     )
 
