@@ -1,5 +1,5 @@
--- The times of a table's records, noted as they stand, and the soonest of some times. No public promise cites this file. Assumes
--- nothing.
+-- The times of a table's records, noted as they stand, and the soonest of some times. No public promise cites this file.
+-- Assumes nothing.
 use Prim.Native.Nat.{ℕ, _≤_, _<_}
 use mathlib.Core.Path.{_≡_}
 use mathlib.Core.List.{List}

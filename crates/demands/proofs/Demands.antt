@@ -124,8 +124,7 @@ module _ (t s : List ℕ) where
   pub stays-sound : checkTable Both t ≡ Sound → checkTable Both (arrivedAt t s) ≡ Sound
   stays-sound = still-sound Both t s
 
--- The snapshot, and the value of one property: property n of a snapshot that was written is what the property question hands back
--- ...
+-- The snapshot and the value of one property: where a snapshot is written, its property n is what the question hands back ...
 module _ (p o : List ℕ) (at : Instant) (buffer : List ℕ) where
   pub property-value : snapshotOf p o at buffer ≡ outcome.Written → (n : ℕ) → n < 8
       → Tells p o (take (strideOf p) (drop (32 + n * strideOf p) (afterSnapshot (snapshotOf p o at buffer) p o at buffer)))
@@ -159,8 +158,7 @@ module _ (p o : List ℕ) (at : Instant) (n : ℕ) where
       → k ≡ 32 + (countOf o - looked) * recordSize (strideOf o) + 32 + n * strideOf o
   touched-part = touches.touched-part p o at n
 
--- Derived baselines. Of a table that passes 1 to 7 each derived record passes the slice check, and so no derivation is refused with
--- 24 ...
+-- Derived baselines. Of a table that passes 1 to 7 each derived record passes the slice check, so no derivation gives 24 ...
 module _ (p : List ℕ) (bytes : Bytes p) where
   pub each-passes : checkTable Permanent p ≡ Sound → (r : List ℕ) → In r (derivedRecords p)
       → checkRecord (strideOf p) permanent r ≡ Sound

@@ -1,6 +1,6 @@
 -- Going on from one change instant to the next: under a BASELINE that holds at both, or an opening PERMDELTA that is the anchor at
--- both, the state at the later one is that at the earlier one with the PERMDELTAs of that instant applied, as they stand. Assumes
--- nothing.
+-- both, the state at the later one is that at the earlier one with the PERMDELTAs of that instant applied, as they stand.
+-- Assumes nothing.
 use Prim.Native.Nat.{ℕ, _≤_, _<_}
 use lib.Dec.{ltb}
 use mathlib.Core.Path.{_≡_, refl, sym, ap, _∙_}

@@ -1,5 +1,5 @@
--- What the laws need of the rule how long a BASELINE holds and how far it reaches; no other file of proofs opens it. Assumes
--- nothing.
+-- What the laws need of the rule how long a BASELINE holds and how far it reaches; no other file of proofs opens it.
+-- Assumes nothing.
 use Prim.Native.Nat.{ℕ}
 use mathlib.Core.Path.{_≡_, refl}
 use mathlib.Core.List.{List}

@@ -115,8 +115,8 @@ abbrev state : ℕ → Standing
 state gone =
     known (record { life = record { begin = record { 0 = 10 }; end = record { 0 = gone } }; properties = says red ∷ says red ∷ [] })
 
--- before the first BASELINE, in it, at the gap's begin and at its last instant, in the second; then before the life end and from it
--- on
+-- before the first BASELINE, in it, at the gap's begin and at its last instant, in the second; then before the life end
+-- and from it on
 standings : map (at gap) (9 ∷ 10 ∷ 20 ∷ 29 ∷ 30 ∷ []) ++ map (at ended) (29 ∷ 30 ∷ 31 ∷ [])
     ≡ refuses 20 ∷ state never ∷ refuses 20 ∷ refuses 20 ∷ state never ∷ state 30 ∷ refuses 22 ∷ refuses 22 ∷ []
 unfolding instants

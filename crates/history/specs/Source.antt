@@ -1,5 +1,5 @@
--- Which slice mentioned a property last (document 01: "the one whose record mentioned it last in the order above"). Assumes
--- nothing.
+-- Which slice mentioned a property last (document 01: "the one whose record mentioned it last in the order above").
+-- Assumes nothing.
 use Prim.Native.Nat.{ℕ}
 use mathlib.Core.Bool.{Bool, cond}
 use mathlib.Core.List.{List, [], _∷_}

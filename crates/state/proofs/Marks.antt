@@ -1,5 +1,5 @@
--- The marks of the latest mention, step by step, and that a pass keeps for each part the mark of its latest mention. Assumes
--- nothing.
+-- The marks of the latest mention, step by step, and that a pass keeps for each part the mark of its latest mention.
+-- Assumes nothing.
 use Prim.Native.Nat.{ℕ, zero, suc, _+_, _≤_, _<_}
 use mathlib.Core.Path.{_≡_, refl, sym, ap, _∙_}
 use mathlib.Core.Bool.{Bool, true, false, cond, not, _&&_, _||_, and-false}

@@ -1,5 +1,5 @@
--- What a survey of a permanent table found: what it gives to the search for the anchor, and that this settles the standing. Assumes
--- nothing.
+-- What a survey of a permanent table found: what it gives to the search for the anchor, and that this settles the standing.
+-- Assumes nothing.
 use Prim.Native.Nat.{ℕ, _≤_, _<_}
 use mathlib.Core.Path.{_≡_, sym, subst}
 use mathlib.Core.Bool.{true}

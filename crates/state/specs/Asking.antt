@@ -155,8 +155,8 @@ bytesAt p t (place.Refused f) = []
 abbrev pub pointsInto : RefT (List ℕ) → ℕ → ℕ × ℕ
 pointsInto s at = (s .ptr .0, at + s .ptr .1)
 
--- the part that the property question hands back: where it points, and its bytes. Without bytes it is at the permanent table's
--- front
+-- the part that the property question hands back: where it points, and its bytes. Without bytes it is at
+-- the permanent table's front
 abbrev pub handed : Place → RefT (List ℕ) → RefT (List ℕ) → (ℕ × ℕ) × List ℕ
 handed (place.Permanent at) p t = (pointsInto p at, bytesAt (p .now) (t .now) (place.Permanent at))
 handed (place.Temporary at) p t = (pointsInto t at, bytesAt (p .now) (t .now) (place.Temporary at))

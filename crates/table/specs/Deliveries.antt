@@ -22,8 +22,8 @@ pub record Decided (room : ℕ) (r : List ℕ) (rs : List (List ℕ)) (a : Arriv
   -- no stored record has its kind and sequence
   pub added : ((x : List ℕ) → In x rs → keyOf x ≡ keyOf r → ⊥) → (length rs ≡ room → ⊥) → a ≡ Added
   pub full : ((x : List ℕ) → In x rs → keyOf x ≡ keyOf r → ⊥) → length rs ≡ room → a ≡ refusedArrival 18
-  -- x is the stored record of its kind and sequence: its correction is lower; it is higher; it is the same, with equal or other
-  -- bytes
+  -- x is the stored record of its kind and sequence: its correction is lower; it is higher; it is the same, with
+  -- equal or other bytes
   pub replaced : (x : List ℕ) → In x rs → keyOf x ≡ keyOf r → lowerCorrection (correctionOf x) (correctionOf r) ≡ true
       → a ≡ Replaced
   pub superseded : (x : List ℕ) → In x rs → keyOf x ≡ keyOf r → lowerCorrection (correctionOf r) (correctionOf x) ≡ true

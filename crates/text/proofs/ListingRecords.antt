@@ -1,5 +1,5 @@
--- A derivation that is not refused leaves a table whose records are the derived ones, so that their text is the listing. Assumes
--- nothing.
+-- A derivation that is not refused leaves a table whose records are the derived ones, so that their text is the listing.
+-- Assumes nothing.
 use Prim.Native.Nat.{ℕ, _≤_}
 use mathlib.Core.Path.{_≡_, sym, ap, _∙_, subst}
 use mathlib.Core.List.{List, []}

@@ -36,7 +36,7 @@ pub struct Answer {
 }
 
 // Where a property stands, as C has it. Kind 0: refused, and `number` says why; 1 in the permanent table, 2
-// in the temporary one, from byte `at` on, `size` bytes; 3 unmentioned. What nothing is said of is 0.
+// in the temporary one, from byte `at` on, `size` bytes; 3 unmentioned. Unused fields are 0.
 #[repr(C)]
 pub struct Part {
     pub kind: u32,

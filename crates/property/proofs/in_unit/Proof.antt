@@ -1,5 +1,5 @@
--- `property::in_unit` meets its contract: in each arm the detail is that arm's number, and in the last none of them. Assumes
--- nothing.
+-- `property::in_unit` meets its contract: in each arm the detail is that arm's number, and in the last none of them.
+-- Assumes nothing.
 use borrow.Author.Tests.{ne-eqb}
 use Rattle.property.proofs.in_unit.Statement.{statement}
 use Rattle.property.proofs.in_unit.Tie as tie

@@ -1,5 +1,5 @@
--- `property::nil_of` meets its contract: in each arm the detail is that arm's number, and in the last none of them. Assumes
--- nothing.
+-- `property::nil_of` meets its contract: in each arm the detail is that arm's number, and in the last none of them.
+-- Assumes nothing.
 use borrow.Author.Tests.{ne-eqb}
 use Rattle.property.proofs.nil_of.Statement.{statement}
 use Rattle.property.proofs.nil_of.Tie as tie

@@ -1,5 +1,5 @@
--- `baselines::derivation::derive` meets its contract: the tests in their order, and then the records that were drawn. Assumes
--- nothing.
+-- `baselines::derivation::derive` meets its contract: the tests in their order, and then the records that were drawn.
+-- Assumes nothing.
 use Prim.Native.Nat.{ℕ}
 use mathlib.Core.Path.{_≡_, refl, sym, ap, subst, _∙_}
 use mathlib.Core.Bool.{false}

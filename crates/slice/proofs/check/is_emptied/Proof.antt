@@ -1,5 +1,5 @@
--- `slice::check::is_emptied` meets its contract: the part from byte 32 on is blank where the record's bytes there are. Assumes
--- nothing.
+-- `slice::check::is_emptied` meets its contract: the part from byte 32 on is blank where the record's bytes there are.
+-- Assumes nothing.
 use Prim.Native.Nat.{_*_}
 use mathlib.Core.Path.{_≡_, _∙_}
 use native.Mathlib.Omega.{arith}

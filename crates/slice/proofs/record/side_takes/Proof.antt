@@ -1,5 +1,5 @@
--- `slice::record::side_takes` meets its contract: in each arm the side is that arm's number, and in the last none of them. Assumes
--- nothing.
+-- `slice::record::side_takes` meets its contract: in each arm the side is that arm's number, and in the last none of them.
+-- Assumes nothing.
 use borrow.Author.Tests.{ne-eqb}
 use Rattle.slice.specs.Record.{ofSide}
 use Rattle.slice.proofs.record.side_takes.Statement.{statement}

@@ -1,5 +1,5 @@
--- `state::anchor::begun` meets its contract: the start and the life end that it works out are those of the definition. Assumes
--- nothing.
+-- `state::anchor::begun` meets its contract: the start and the life end that it works out are those of the definition.
+-- Assumes nothing.
 use Prim.Native.Nat.{ℕ}
 use mathlib.Core.Path.{_≡_, sym, ap, ap₂, _∙_}
 use mathlib.Core.Bool.{not, _&&_}

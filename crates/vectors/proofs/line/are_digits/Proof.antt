@@ -1,5 +1,5 @@
--- `vectors::line::are_digits` is safe and ends. The loop's invariant says nothing; the measure is what is left of the line. Assumes
--- nothing.
+-- `vectors::line::are_digits` is safe and ends. The loop's invariant says nothing; the measure is what is left of the line.
+-- Assumes nothing.
 use Prim.Native.Nat.{_-_}
 use lib.ListN.{length}
 use borrow.Author.Needs.{needs}
