@@ -21,6 +21,8 @@ pub mod Onward
 pub mod DerivedRules
 -- the change instants rise, are given, and contain every time at which the state may change
 pub mod Changes
+-- the stretches from one change instant to the next, and the BASELINEs made of them
+pub mod Stretches
 -- what the other laws need of how long a BASELINE holds and how far it reaches
 pub mod Periods
 -- the order by instant and then sequence number is strict and total
