@@ -21,15 +21,14 @@ use Rattle.history.specs.Counted.{counts, holds}
 use Rattle.history.specs.Period.{until}
 use Rattle.history.specs.Anchor.{stands, opens, Anchor, based, opened, nowhere, two, only, anchor}
 use Rattle.history.specs.State.{State}
-use Rattle.history.specs.Permanent.{after, follows, following, Standing, refuses, known, withdrawn, permanentAt}
+use Rattle.history.specs.Permanent.{after, follows, following, known, withdrawn, permanentAt}
 use Rattle.history.specs.Source.{lastOf, lineFrom, line}
 use Rattle.history.specs.Parts.{tells}
-use Rattle.history.specs.Changes.{changeInstants, nextOf}
-use Rattle.history.specs.Derived.{Stretch, stretch, stretchesFrom, stretches, filledIn, baselineOf}
+use Rattle.history.specs.Changes.{changeInstants}
+use Rattle.history.specs.Derived.{Stretch, stretches, filledIn, baselineOf}
 use Rattle.history.proofs.Parts.{last-in, beginIn, line-begin, following-in}
 use Rattle.history.proofs.Line.{Within, only-within, known-line}
-use Rattle.history.proofs.Selection.{append-in}
-use Rattle.history.proofs.Changes.{Risen, changes-rising, changes-given, next-in, next-least}
+use Rattle.history.proofs.Changes.{changes-rising, changes-given}
 use Rattle.history.proofs.Steady.{Timely, known-life}
 use Rattle.history.proofs.Stretches.{stretched, stretch-next}
 use Rattle.history.proofs.ReadBack.{known-stays}

@@ -15,8 +15,6 @@ pub mod Parts
 pub mod Line
 -- the permanent state does not change between change instants, and there is none before the first
 pub mod Steady
--- the state at one change instant from the state at the one before
-pub mod Onward
 -- a derived BASELINE has right times (15) and content (16)
 pub mod DerivedRules
 -- the change instants rise, are given, and contain every time at which the state may change

@@ -124,7 +124,7 @@ module _ (t : Instant) (slices : List Slice) (b : Slice) where
         (λ (s, i, z, e). let (c, p) = and-both (counts baseline s) (atMost (beginOf s) t) z in
         let q : before (beginOf b) (beginOf s) ≡ true = omega tests in
         let j = in-map beginOf (kept (beginsAfter (beginOf b)) slices) s
-            (kept-in (beginsAfter (beginOf b)) slices s .1 (i, rw (c, q))) in
+        (kept-in (beginsAfter (beginOf b)) slices s .1 (i, rw (c, q))) in
         absurd (omega (tests, least-each t after h .1 (beginOf s) j)))
         (l .one))
         (λ k. omega (tests, l .most b m y))
@@ -178,6 +178,6 @@ until-derived unknown slices b m =
         let (j, x, n, e) = numbered-in unknown 1 (stretches slices) b m in
         let (k, z, o, f) = numbered-in unknown 1 (stretches slices) s i in
         let last = stretch-next slices (changeInstants slices) (changes-rising slices) (changes-given slices) x n .last (rw e at y)
-            (z .period .begin) (stretched slices (changeInstants slices) z o .begins) in
+        (z .period .begin) (stretched slices (changeInstants slices) z o .begins) in
         let l : before (x .period .begin) (z .period .begin) ≡ false = omega tests in
         ap (λ (y : Bool). counts baseline s && y) (rw (e, f) l) ∙ and-false (counts baseline s)

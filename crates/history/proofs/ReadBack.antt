@@ -9,7 +9,7 @@ use Rattle.laws.specs.Lists.{kept}
 use Rattle.laws.specs.Keyed.{In}
 use Rattle.laws.proofs.Tests.{tests, pick-ind, by-test}
 use Rattle.laws.proofs.Lists.{any-none}
-use Rattle.numbers.specs.Numbers.{noInstant, none, before, atMost}
+use Rattle.numbers.specs.Numbers.{noInstant, before, atMost}
 use Rattle.numbers.specs.declared.Instant.{Instant}
 use Rattle.slice.specs.Record.{baseline, permdelta, Slice}
 use Rattle.history.specs.Counted.{counts, holds}
@@ -21,8 +21,8 @@ use Rattle.history.specs.Changes.{changeInstants, nextOf}
 use Rattle.history.specs.Derived.{hasTwo, twoAnchors, Stretch, stretch, stretchesFrom, stretches, baselineOf, numberedFrom}
 use Rattle.history.specs.Derived.{derivedBaselines, asWritten, readBack}
 use Rattle.history.proofs.Line.{known-apart, known-same}
-use Rattle.history.proofs.Selection.{kept-same, kept-none, kept-append, append-in}
-use Rattle.history.proofs.Changes.{Risen, changes-rising, next-in, next-least}
+use Rattle.history.proofs.Selection.{kept-same, kept-none, kept-append}
+use Rattle.history.proofs.Changes.{Risen, changes-rising, next-least}
 use Rattle.history.proofs.Stretches.{stretched, numbered-in}
 use Rattle.history.proofs.Periods.{until-derived}
 use Rattle.history.proofs.Steady.{Timely, Alike, permanent-same, permanent-none}

@@ -41,7 +41,11 @@ fn no_base() -> Bases
     let fixed = Few::Zero;
     let endless = Few::Zero;
     let last = Instant(0);
-    Bases { fixed, last, endless }
+    Bases {
+        fixed,
+        last,
+        endless,
+    }
 }
 
 // Whether a record is a BASELINE that is not cancelled and has begun by an instant.
@@ -87,11 +91,19 @@ fn held_with(bases: Bases, period: Period, place: usize, instant: Instant) -> Ba
     }
     if !end.is_none() {
         let fixed = tallied(fixed, place);
-        return Bases { fixed, last, endless };
+        return Bases {
+            fixed,
+            last,
+            endless,
+        };
     }
     if begin.is(last) {
         let endless = tallied(endless, place);
-        return Bases { fixed, last, endless };
+        return Bases {
+            fixed,
+            last,
+            endless,
+        };
     }
     bases
 }

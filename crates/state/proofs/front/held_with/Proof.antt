@@ -4,7 +4,6 @@ use mathlib.Core.Bool.{true}
 use borrow.Author.Tests.{not-true, not-false}
 use Rattle.numbers.specs.Numbers.{before}
 use Rattle.state.specs.declared.anchor.Few.{Few}
-use Rattle.state.specs.declared.front.Bases.{Bases}
 use Rattle.state.proofs.Bases.{held-not, held-fixed, held-endless, held-closed}
 use borrow.Author.Needs.{needs}
 use Rattle.state.proofs.front.held_with.Statement.{statement}
