@@ -25,25 +25,26 @@ use Rattle.history.proofs.Changes.{Changing, begin-changing, end-changi
 use Rattle.history.proofs.Stretches.{stretched, stretch-next, numbered-in}
 
 -- ---- the least of some instants
+-- it is past t where each of them is
+least-past : (t x : Instant) (l : List Instant) → before t (least (x ∷ l)) ≡ (before t x && before t (least l))
+unfolding before
+least-past t x l =
+    let y = least l in
+    pick-ind (λ (z : Instant). before t z ≡ (before t x && before t y)) (before x y)
+    (λ k. by-test (before t x) (λ p. let q : before t y ≡ true = omega tests in rw (p, q)) (λ n. rw n))
+    (λ k. by-test (before t y) (λ p. let q : before t x ≡ true = omega tests in rw (q, p)) (λ n. rw n (sym (and-false (before t x)))))
+
 least-in : (l : List Instant) → (least l ≡ none) ⊎ In (least l) l
 least-in [] = inl refl
 least-in (x ∷ l) =
     pick-ind (λ y. (y ≡ none) ⊎ In y (x ∷ l)) (before x (least l)) (λ _. inr (inl refl)) (λ _. ⊎-elim inl (λ m. inr (inr m)) (least-in l))
-
--- it is past t where each of them is
-least-past : (t x y : Instant) → before t (cond (before x y) x y) ≡ (before t x && before t y)
-unfolding before
-least-past t x y =
-    pick-ind (λ (z : Instant). before t z ≡ (before t x && before t y)) (before x y)
-    (λ l. by-test (before t x) (λ p. let q : before t y ≡ true = omega tests in rw (p, q)) (λ n. rw n))
-    (λ l. by-test (before t y) (λ p. let q : before t x ≡ true = omega tests in rw (q, p)) (λ n. rw n (sym (and-false (before t x)))))
 
 -- of some instants each is past t, and t is an instant at all
 least-each : (t : Instant) (l : List Instant) → before t (least l) ≡ true
     → (before t none ≡ true) × ((x : Instant) → In x l → before t x ≡ true)
 least-each t [] h = (h, λ x m. absurd m)
 least-each t (y ∷ l) h =
-    let (p, q) = and-both (before t y) (before t (least l)) (sym (least-past t y (least l)) ∙ h) in
+    let (p, q) = and-both (before t y) (before t (least l)) (sym (least-past t y l) ∙ h) in
     let (n, each) = least-each t l q in
     (n, λ x. ⊎-elim (λ e. ap (before t) e ∙ p) (each x))
 
@@ -51,7 +52,7 @@ each-least : (t : Instant) (l : List Instant) → before t none ≡ true → ((x
     → before t (least l) ≡ true
 each-least t [] n each = n
 each-least t (y ∷ l) n each =
-    least-past t y (least l) ∙ rw (each y (inl refl), each-least t l n (λ x m. each x (inr m)))
+    least-past t y l ∙ rw (each y (inl refl), each-least t l n (λ x m. each x (inr m)))
 
 -- ---- the begins after an instant
 abbrev begins : Instant → List Slice → List Instant
@@ -62,7 +63,7 @@ one-more : (t u : Instant) (s : Slice) (slices : List Slice)
     → before t (least (begins u (s ∷ slices)))
     ≡ cond (beginsAfter u s) (before t (beginOf s) && before t (least (begins u slices))) (before t (least (begins u slices)))
 one-more t u s slices =
-    by-test (beginsAfter u s) (λ y. rw y (least-past t (beginOf s) (least (begins u slices)))) (λ n. rw n)
+    by-test (beginsAfter u s) (λ y. rw y (least-past t (beginOf s) (begins u slices))) (λ n. rw n)
 
 -- one out of reach that begins after an instant begins after t
 far : (t u : Instant) (s : Slice) → reaches t s ≡ false → beginsAfter u s ≡ true → before t (beginOf s) ≡ true
