@@ -461,7 +461,7 @@ impl fmt::Display for Difference {
 #[cfg(test)]
 mod tests {
     use super::*;
-    use crate::library::{BY_STEPS, BY_SWEEPS, ON_HEAP, PLAIN};
+    use crate::library::{BY_STEPS, ON_HEAP, PLAIN};
 
     /// Returns whether some rounds with a library show no difference.
     fn is_same(library: &Library) -> bool {
@@ -486,7 +486,6 @@ mod tests {
     fn the_plain_program_is_the_same() {
         let tally = same(&PLAIN);
         assert_eq!(same(&BY_STEPS), tally);
-        assert_eq!(same(&BY_SWEEPS), tally);
         assert_eq!(same(&ON_HEAP), tally);
         assert_eq!(tally.unseen(), []);
     }

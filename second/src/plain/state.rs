@@ -165,19 +165,59 @@ pub fn turn(record: &Record) -> u64 {
     u64::from(number(record, BEGIN)) << 32 | u64::from(number(record, 4))
 }
 
+/// How many BASELINEs hold, as far as is known, and the last of them.
+#[derive(Clone, Copy, Default)]
+struct Holding<'a> {
+    count: usize,
+    last: Option<&'a Record>,
+}
+
+impl<'a> Holding<'a> {
+    /// Adds a BASELINE.
+    fn add(&mut self, baseline: &'a Record) {
+        self.count += 1;
+        self.last = Some(baseline);
+    }
+}
+
+/// Returns the only BASELINE that holds at an instant, if one does, or 21; in one pass. Without an
+/// end, only those of the latest begin by the instant can hold: that begin has closed all others.
+fn baseline_at(baselines: &[Record], instant: u32) -> Result<Option<&Record>, Refusal> {
+    let (mut fixed, mut open) = (Holding::default(), Holding::default());
+    let mut latest = 0;
+    for one in baselines {
+        let (begin, end) = (number(one, BEGIN), number(one, END));
+        // A cancelled record has no begin, and "none" is above every instant.
+        if begin > instant {
+            continue;
+        }
+        if begin > latest {
+            latest = begin;
+            open = Holding::default();
+        }
+        if end != NONE {
+            if instant < end {
+                fixed.add(one);
+            }
+        } else if begin == latest {
+            open.add(one);
+        }
+    }
+    if fixed.count + open.count > 1 {
+        return Err(Refusal::TwoAnchors);
+    }
+    Ok(fixed.last.or(open.last))
+}
+
 impl<'a> Line<'a> {
     /// Returns what is applied at an instant, or 21 or 20.
     fn at([baselines, changes]: [&'a [Record]; 2], instant: u32) -> Result<Line<'a>, Refusal> {
-        let mut anchors = baselines.iter().filter(|one| holds(one, instant));
-        let (anchor, after) = if let Some(baseline) = anchors.next() {
+        let (anchor, after) = if let Some(baseline) = baseline_at(baselines, instant)? {
             (baseline, turn(baseline) | u64::from(u32::MAX))
         } else {
             let opening = Line::opening(changes, instant)?;
             (opening, turn(opening))
         };
-        if anchors.next().is_some() {
-            return Err(Refusal::TwoAnchors);
-        }
         Ok(Line {
             anchor,
             after,

@@ -165,20 +165,21 @@ fn many(script: &mut Script) {
     ask_into(script, &set(ended, at(255) + 31, &[1]), bytes_of(256), 1);
 }
 
-/// Adds too many records: with a table too short for its count, with two anchors at the end, and as
-/// many as there can be.
+/// Adds too many records: with an end that the next BASELINE gives, with two anchors near the end,
+/// with a table too short for its count, and as many as there can be.
 fn too_many(script: &mut Script) {
     script.title("derived: too many records and another fault");
     let table = permanent(&apart(401));
-    let last_but_one = table.len() - 3 * RECORD_BYTES;
-    let overlap = set(table.clone(), last_but_one + 12, &NONE.to_be_bytes());
+    let end = table.len() - 3 * RECORD_BYTES + 12;
+    let ended = |time: u32| set(table.clone(), end, &time.to_be_bytes());
     let mut over = table.clone();
     over.resize(65_536, 0);
     for table in [
         table.clone(),
-        overlap,
+        ended(NONE),
+        ended(2_001),
         set(over, 6, &[1, 1]),
-        set(table, 31, &[1]),
+        set(table.clone(), 31, &[1]),
         permanent(&apart(511)),
     ] {
         for length in [0, bytes_of(256), 65_536] {
@@ -253,7 +254,7 @@ mod tests {
         let mut script = Script::default();
         too_many(&mut script);
         let answers = script.answers();
-        let expected = ["23", "21", "5", "4", "23"].map(|number| [number; 3]);
+        let expected = ["23", "23", "21", "5", "4", "23"].map(|number| [number; 3]);
         let expected: Vec<&str> = expected.concat();
         assert_eq!(answers.lines().collect::<Vec<_>>(), expected);
     }

@@ -131,12 +131,9 @@ fn lives() -> Vec<Vec<Case>> {
         for instant in [150, 200, 250, 300, 350] {
             histories.push(vec![anchor.clone(), change(1, instant, 2)]);
         }
-        // A BASELINE without end stays an anchor, whatever its life.
-        if end != NONE {
-            let next = baseline(2, [400, NONE, NONE, 500], 3);
-            histories.push(vec![anchor.clone(), next.clone()]);
-            histories.push(vec![anchor, next, opening(1, 120, 4), change(2, 450, 5)]);
-        }
+        let next = baseline(2, [400, NONE, NONE, 500], 3);
+        histories.push(vec![anchor.clone(), next.clone()]);
+        histories.push(vec![anchor, next, opening(1, 120, 4), change(2, 450, 5)]);
     }
     histories
 }
@@ -273,17 +270,17 @@ fn turns() -> Vec<Vec<Case>> {
 fn anchors() -> Vec<Vec<Case>> {
     let (one, opened) = (from_to(1, 100, 200), opening(5, 100, 1));
     vec![
-        vec![base(), from_to(2, 200, NONE)],
+        vec![base(), from_to(2, 100, NONE)],
         vec![one.clone(), from_to(2, 199, 300)],
         vec![one.clone(), from_to(2, 100, 200)],
-        vec![base(), from_to(2, LAST, NONE)],
+        vec![from_to(1, LAST, NONE), from_to(2, LAST, NONE)],
         vec![base(), from_to(2, 0, 101)],
         vec![opened.clone(), opening(6, 100, 2)],
         vec![opened.clone(), opening(4, LAST, 2)],
         vec![opened.clone(), opening(6, 150, 2), one.clone()],
         vec![opened.clone(), opening(6, 150, 2), closing(7, 150)],
         vec![one.clone(), from_to(2, 150, 151), closing(7, 120)],
-        vec![one, from_to(2, 200, NONE), from_to(3, 300, 301), opened],
+        vec![one, from_to(2, 200, 302), from_to(3, 300, 301), opened],
     ]
 }
 
