@@ -3,7 +3,7 @@
 use crate::fixtures::Case;
 use crate::random::Random;
 use crate::record::{Kind, NONE};
-use crate::supply;
+use crate::supply::{self, Ends};
 use crate::tables::Tables;
 
 /// What the records of a table are like, whether it is asked about or delivered to.
@@ -24,7 +24,7 @@ pub fn asked(make: Make, count: usize, seed: u64) -> (Tables, u32) {
         Make::Alike => (Tables::of(&alike(count)), ALIKE),
         Make::Mixed => {
             let mut random = Random::new(seed);
-            let cases = supply::crowd(&mut random, count);
+            let cases = supply::crowd(&mut random, count, Ends::Fixed);
             let middle = supply::STRETCH * (count / 8);
             let instant = middle + random.below(supply::STRETCH);
             (Tables::of(&cases), instant as u32)
