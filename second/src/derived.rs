@@ -344,13 +344,10 @@ mod tests {
         assert!(often.iter().all(|count| counts[count] > 100), "{counts:?}");
     }
 
-    /// Every way in which the BASELINEs of a crowd end.
-    const ENDS: [Ends; 3] = [Ends::Fixed, Ends::Open, Ends::Any];
-
     /// Large histories: rows of BASELINEs with changes anywhere in them.
     #[test]
     fn large_histories_are_read_back() {
-        for (seed, ends) in (0..20).flat_map(|seed| ENDS.map(|ends| (seed, ends))) {
+        for (seed, ends) in (0..20).flat_map(|seed| Ends::ALL.map(|ends| (seed, ends))) {
             let cases = crowd(&mut Random::new(seed), 40, ends);
             let count = hold_history(&Tables::of(&cases));
             assert!(count.is_some_and(|count| count > 20), "{count:?}");

@@ -255,7 +255,8 @@ impl<'a, P: Player> Round<'a, P> {
 
     /// Plays every question at some instants of one large history.
     fn crowd(&mut self) -> Result<(), P::Fault> {
-        let tables = Tables::of(&supply::crowd(&mut self.random, self.most, Ends::Any));
+        let ends = self.random.pick(&Ends::ALL);
+        let tables = Tables::of(&supply::crowd(&mut self.random, self.most, ends));
         let instants = tables.instants();
         for _ in 0..8 {
             let instant = self.random.pick(&instants);
@@ -359,7 +360,8 @@ impl<'a, P: Player> Round<'a, P> {
     /// more.
     fn many_derived(&mut self) -> Result<(), P::Fault> {
         let most = bytes_of(self.most);
-        let any = permanent(&supply::crowd(&mut self.random, self.most, Ends::Any));
+        let ends = self.random.pick(&Ends::ALL);
+        let any = permanent(&supply::crowd(&mut self.random, self.most, ends));
         let less = self.random.pick(&[0, 1, 2]);
         let tables = [any, permanent(&apart(self.most as u32 + 1 - less))];
         for table in tables {

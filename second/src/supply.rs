@@ -177,6 +177,11 @@ pub enum Ends {
     Any,
 }
 
+impl Ends {
+    /// Every way.
+    pub const ALL: [Ends; 3] = [Ends::Fixed, Ends::Open, Ends::Any];
+}
+
 /// Makes this many slices for each side: a row of BASELINEs, three times as many changes anywhere
 /// in it, and TEMPDELTAs of any period; properties of forms at random, and some deltas cancelled.
 pub fn crowd(random: &mut Random, count: usize, ends: Ends) -> Vec<Case> {

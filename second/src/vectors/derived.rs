@@ -5,7 +5,7 @@ use super::rules::{self, at, set};
 use super::themes::paper;
 use super::Script;
 use crate::fixtures::brief::{base, baseline, change, closing, opening};
-use crate::fixtures::rows::{apart, touching};
+use crate::fixtures::rows::{apart, touching, unended};
 use crate::layout::{bytes_of, RECORD_BYTES};
 use crate::random::Random;
 use crate::record::{Side, NONE};
@@ -154,9 +154,11 @@ fn many(script: &mut Script) {
     ] {
         ask_into(script, &permanent(&apart(count)), length, 0xc3);
     }
-    let table = permanent(&touching(256));
-    ask_into(script, &table, bytes_of(256) - 1, 0);
-    ask_into(script, &table, bytes_of(256) + 10, 0);
+    for cases in [touching(256), unended(256)] {
+        let table = permanent(&cases);
+        ask_into(script, &table, bytes_of(256) - 1, 0);
+        ask_into(script, &table, bytes_of(256) + 10, 0);
+    }
     let mut ended = row(256);
     ask_into(script, &ended, bytes_of(255), 1);
     ask_into(script, &ended, bytes_of(256), 1);
@@ -224,7 +226,9 @@ mod tests {
                 Err(Refusal::Buffer)
             );
         }
-        assert_eq!(derive(&permanent(&touching(256)), &mut output), Ok(256));
+        for cases in [touching(256), unended(256)] {
+            assert_eq!(derive(&permanent(&cases), &mut output), Ok(256));
+        }
         for count in [0, 1, 4, 256] {
             assert_eq!(derive(&row(count), &mut output), Ok(count as usize));
         }

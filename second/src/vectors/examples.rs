@@ -92,7 +92,6 @@ fn examples() -> Vec<Example> {
 #[cfg(test)]
 mod tests {
     use super::*;
-    use crate::question::property;
 
     /// What the specification says of property 0 at each instant: a value, 0 for nil, or a refusal.
     #[test]
@@ -103,14 +102,8 @@ mod tests {
             slices
                 .iter()
                 .for_each(|slice| script.bring(&mut tables, slice));
-            let at = |&instant: &u32| {
-                let part = property(&tables.permanent, &tables.temporary, instant, 0);
-                part.map_or_else(
-                    |refusal| format!("!{}", refusal.number()),
-                    |part| part.map_or("-".to_string(), |part| part.bytes[9].to_string()),
-                )
-            };
-            instants.iter().map(at).collect::<Vec<_>>().join(" ")
+            let answers = instants.iter().map(|&instant| tables.value_at(instant));
+            answers.collect::<Vec<_>>().join(" ")
         });
         assert_eq!(
             answers.collect::<Vec<_>>().join(", "),

@@ -39,6 +39,7 @@ pub fn themes() -> Vec<Theme> {
         theme("paper", "the paper's example", vec![paper()]),
         theme("nothing", "no state at any change instant", nothing()),
         theme("periods", "BASELINEs of every period", periods()),
+        theme("open", "BASELINEs without end", open_ends()),
         theme("changes", "PERMDELTAs about a begin", changes()),
         theme("equal", "equal neighbours", equal()),
         theme("lives", "life ends given by BASELINEs", lives()),
@@ -85,6 +86,29 @@ fn periods() -> Vec<Vec<Case>> {
     histories.push([&three[..], &inside].concat());
     histories.push([&three[..], &inside, &[change(4, 250, 14)]].concat());
     histories
+}
+
+/// Makes BASELINEs without end that another closes: one without end too, or one that leaves a gap;
+/// with changes, an opening, a life end and cancelled ones.
+fn open_ends() -> Vec<Vec<Case>> {
+    let (first, short, next) = (base(), from_to(2, 150, 160), from_to(3, 200, NONE));
+    let ended = baseline(1, [100, NONE, 100, 180], 1);
+    let both = [first.clone(), next.clone()];
+    let all = [first.clone(), short.clone(), next.clone()];
+    vec![
+        both.to_vec(),
+        vec![first.clone(), short.clone()],
+        all.to_vec(),
+        [&all[..], &[opening(5, 90, 50)]].concat(),
+        [&all[..], &[change(1, 120, 7), change(2, 155, 8)]].concat(),
+        [&both[..], &[change(1, 199, 7), change(2, 200, 8)]].concat(),
+        [&both[..], &[closing(1, 150)]].concat(),
+        vec![ended.clone(), next.clone()],
+        vec![ended, short.clone(), opening(5, 90, 50)],
+        vec![first, cancelling(&short, 1), next.clone()],
+        vec![from_to(1, 100, 200), next, from_to(2, 250, NONE)],
+        vec![from_to(2, 0, NONE), from_to(1, LAST, NONE)],
+    ]
 }
 
 /// Makes changes before, at and after the begin and the end of a BASELINE, and at the next begin.
@@ -271,6 +295,8 @@ fn anchors() -> Vec<Vec<Case>> {
     let (one, opened) = (from_to(1, 100, 200), opening(5, 100, 1));
     vec![
         vec![base(), from_to(2, 100, NONE)],
+        vec![base(), from_to(2, 100, NONE), from_to(3, 150, NONE)],
+        vec![one.clone(), from_to(2, 150, NONE)],
         vec![one.clone(), from_to(2, 199, 300)],
         vec![one.clone(), from_to(2, 100, 200)],
         vec![from_to(1, LAST, NONE), from_to(2, LAST, NONE)],
