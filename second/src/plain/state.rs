@@ -165,48 +165,38 @@ pub fn turn(record: &Record) -> u64 {
     u64::from(number(record, BEGIN)) << 32 | u64::from(number(record, 4))
 }
 
-/// How many BASELINEs hold, as far as is known, and the last of them.
-#[derive(Clone, Copy, Default)]
-struct Holding<'a> {
-    count: usize,
-    last: Option<&'a Record>,
-}
-
-impl<'a> Holding<'a> {
-    /// Adds a BASELINE.
-    fn add(&mut self, baseline: &'a Record) {
-        self.count += 1;
-        self.last = Some(baseline);
-    }
-}
-
 /// Returns the only BASELINE that holds at an instant, if one does, or 21; in one pass. Without an
 /// end, only those of the latest begin by the instant can hold: that begin has closed all others.
 fn baseline_at(baselines: &[Record], instant: u32) -> Result<Option<&Record>, Refusal> {
-    let (mut fixed, mut open) = (Holding::default(), Holding::default());
-    let mut latest = 0;
+    let (mut fixed, mut open) = (None, None);
+    let (mut fixed_count, mut open_count, mut latest) = (0, 0, 0);
     for one in baselines {
         let (begin, end) = (number(one, BEGIN), number(one, END));
         // A cancelled record has no begin, and "none" is above every instant.
         if begin > instant {
             continue;
         }
+        if end == NONE {
+            if begin >= latest {
+                open_count = if begin > latest { 1 } else { open_count + 1 };
+                latest = begin;
+                open = Some(one);
+            }
+            continue;
+        }
         if begin > latest {
             latest = begin;
-            open = Holding::default();
+            open_count = 0;
         }
-        if end != NONE {
-            if instant < end {
-                fixed.add(one);
-            }
-        } else if begin == latest {
-            open.add(one);
+        if instant < end {
+            fixed_count += 1;
+            fixed = Some(one);
         }
     }
-    if fixed.count + open.count > 1 {
+    if fixed_count + open_count > 1 {
         return Err(Refusal::TwoAnchors);
     }
-    Ok(fixed.last.or(open.last))
+    Ok(if open_count == 1 { open } else { fixed })
 }
 
 impl<'a> Line<'a> {
