@@ -112,7 +112,7 @@ int main(void) {
     deliver(one, sizeof one, 1, 100);
     tsl_new_table(two, sizeof two, PERMANENT, FEATURE);
     deliver(two, sizeof two, 1, 100);
-    deliver(two, sizeof two, 2, 200);
+    deliver(two, sizeof two, 2, 100);
     tsl_new_table(temporary, sizeof temporary, TEMPORARY, FEATURE);
     tsl_new_table(stranger, sizeof stranger, TEMPORARY, STRANGER);
     lend();

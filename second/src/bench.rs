@@ -7,7 +7,7 @@ mod touches;
 
 use crate::fixtures::FEATURE;
 use crate::layout::RECORD_BYTES;
-use crate::library::{Library, Reply, BY_STEPS, BY_SWEEPS, ON_HEAP, PLAIN};
+use crate::library::{Library, Reply, BY_STEPS, ON_HEAP, PLAIN};
 use crate::listing::MOST_BYTES;
 use std::fmt;
 use std::hint::black_box;
@@ -27,10 +27,9 @@ const TEXT: usize = 10_771;
 
 /// The plain programs: the one that the library is compared with, and those that derive in other
 /// ways.
-const PLAINS: [(&str, &Library); 4] = [
+const PLAINS: [(&str, &Library); 3] = [
     ("", &PLAIN),
     ("; plain in steps", &BY_STEPS),
-    ("; plain in sweeps", &BY_SWEEPS),
     ("; plain on the heap", &ON_HEAP),
 ];
 
@@ -302,12 +301,9 @@ mod tests {
         assert!(rows[0]
             .to_string()
             .ends_with("|       8.0 |       4.0 |       2.00 |                - |         - |"));
-        let rows = scenes
-            .last()
-            .unwrap()
-            .rows(&[64.0, 1.0, 2.0, 4.0, 8.0], 2.0);
-        assert_eq!(rows.len(), 4);
-        assert!(rows[3]
+        let rows = scenes.last().unwrap().rows(&[64.0, 1.0, 2.0, 8.0], 2.0);
+        assert_eq!(rows.len(), 3);
+        assert!(rows[2]
             .to_string()
             .ends_with("|      64.0 |       8.0 |       8.00 |              4.0 |     32.00 |"));
         let width = HEAD.lines().next().unwrap().len();

@@ -461,7 +461,9 @@ impl fmt::Display for Difference {
 #[cfg(test)]
 mod tests {
     use super::*;
-    use crate::library::{BY_STEPS, BY_SWEEPS, ON_HEAP, PLAIN};
+    use crate::library::{BY_STEPS, ON_HEAP, PLAIN};
+    use crate::record::{self, Head, Span, NONE};
+    use crate::table::Table;
 
     /// Returns whether some rounds with a library show no difference.
     fn is_same(library: &Library) -> bool {
@@ -486,7 +488,6 @@ mod tests {
     fn the_plain_program_is_the_same() {
         let tally = same(&PLAIN);
         assert_eq!(same(&BY_STEPS), tally);
-        assert_eq!(same(&BY_SWEEPS), tally);
         assert_eq!(same(&ON_HEAP), tally);
         assert_eq!(tally.unseen(), []);
     }
@@ -557,6 +558,73 @@ mod tests {
             ..PLAIN
         };
         assert!(![untimely, misplacing, meddling].iter().any(is_same));
+    }
+
+    /// The last instant.
+    const LAST: record::Instant = record::Instant(NONE - 1);
+
+    /// Returns a table with another end for each BASELINE that counts, by its head and the next
+    /// begin of another.
+    fn with_ends(table: &[u8], end: fn(&Head, Option<record::Instant>) -> Span) -> Vec<u8> {
+        let mut changed = table.to_vec();
+        let Ok(mut table) = Table::read(table, Sides::Permanent) else {
+            return changed;
+        };
+        let is_based = |head: &Head| head.kind == 1 && !head.is_cancelled();
+        let heads = table.records.values().map(|one| one.head);
+        let based: Vec<Head> = heads.filter(is_based).collect();
+        let records = table.records.values_mut();
+        for head in records
+            .map(|one| &mut one.head)
+            .filter(|head| is_based(head))
+        {
+            let begins = based.iter().map(|other| other.period.begin);
+            let next = begins.filter(|begin| *begin > head.period.begin).min();
+            head.period = end(head, next.flatten());
+        }
+        table.write(&mut changed);
+        changed
+    }
+
+    /// An end of none that nothing closes, and a fixed end that something does, are found.
+    #[test]
+    fn wrong_closes_are_found() {
+        let unclosing = Library {
+            permanent_state: |permanent, instant, record| {
+                let lasting = with_ends(permanent, |head, _| match (head.period, head.life.end) {
+                    (Span { begin, end: None }, None) if begin < Some(LAST) => Span {
+                        begin,
+                        end: Some(LAST),
+                    },
+                    (period, _) => period,
+                });
+                let is_last = instant >= LAST.0;
+                let table = if is_last { permanent } else { &lasting };
+                (PLAIN.permanent_state)(table, instant, record)
+            },
+            ..PLAIN
+        };
+        let overclosing = Library {
+            permanent_state: |permanent, instant, record| {
+                let closed = with_ends(permanent, |head, next| {
+                    let Span { begin, end } = head.period;
+                    let is_before = next.is_some() && end > next;
+                    let end = if is_before { next } else { end };
+                    Span { begin, end }
+                });
+                (PLAIN.permanent_state)(&closed, instant, record)
+            },
+            ..PLAIN
+        };
+        let unchanging = Library {
+            permanent_state: |permanent, instant, record| {
+                let same = with_ends(permanent, |head, _| head.period);
+                (PLAIN.permanent_state)(&same, instant, record)
+            },
+            ..PLAIN
+        };
+        assert!(is_same(&unchanging));
+        assert!(![unclosing, overclosing].iter().any(is_same));
     }
 
     /// A record too few, a walk that does not stop, an end that is included and a permanent table

@@ -212,10 +212,10 @@ fn example_10() {
     hold(&[base(), p(4, 150, 8), p(3, 150, 9)], "150 8");
 }
 
-/// 11: two BASELINEs at one instant.
+/// 11: the next BASELINE closes one without end.
 #[test]
 fn example_11() {
-    hold(&[base(), b(2, 200, NONE, 2)], "199 1, 200 !21");
+    hold(&[base(), b(2, 200, NONE, 2)], "199 1, 200 2");
 }
 
 /// 12: the life ends.
@@ -273,7 +273,7 @@ fn a_state_is_written_by_the_layout() {
 /// the next.
 #[test]
 fn refusals_come_in_their_order() {
-    let mut tables = tables(&[base(), b(2, 200, NONE, 2)]);
+    let mut tables = tables(&[b(1, 100, 300, 1), b(2, 200, NONE, 2)]);
     let answers = |tables: &Tables, instant, length, property_number| {
         let mut record = vec![0xee; length];
         let (one, other) = (&tables.permanent, &tables.temporary);

@@ -64,11 +64,12 @@ impl History {
     /// Changes the history in one or two places.
     pub fn change(&mut self, random: &mut Random) {
         for _ in 0..=random.below(2) {
-            match random.below(5) {
-                0 | 1 => self.put(random),
+            match random.below(8) {
+                0..=2 => self.put(random),
                 _ if !self.is_based() => self.put(random),
-                2 => self.change_times(random),
-                3 => self.change_parts(random),
+                3 => self.change_times(random),
+                4 => self.change_parts(random),
+                5 | 6 => self.turn_over(random),
                 _ => self.remove(random),
             }
         }
@@ -97,14 +98,41 @@ impl History {
         let case = if random.below(8) == 0 {
             Case::cancelled(kind)
         } else {
-            let parts = self.parts(random, kind);
-            Case::any(kind)
-                .with_parts(&parts)
-                .with_times(self.times(random, kind))
+            self.counted(random, kind)
         };
         let correction = random.pick(&[0, 0, 1, 65_535]);
         let case = case.with_sequence(sequence).with_correction(correction);
         self.records.insert((kind.byte(), sequence), case);
+    }
+
+    /// Makes a slice of a kind that is not cancelled.
+    fn counted(&self, random: &mut Random, kind: Kind) -> Case {
+        let parts = self.parts(random, kind);
+        Case::any(kind)
+            .with_parts(&parts)
+            .with_times(self.times(random, kind))
+    }
+
+    /// Cancels a record, mostly a BASELINE, or brings a cancelled one back; under the next
+    /// correction.
+    fn turn_over(&mut self, random: &mut Random) {
+        let baselines = self.records.range(..(Kind::PermDelta.byte(), 0)).count();
+        let count = match random.below(4) {
+            0 => self.records.len(),
+            _ => baselines,
+        };
+        let Some((&key, case)) = self.records.iter().nth(random.below(count.max(1))) else {
+            return;
+        };
+        let head = case.head();
+        let kind = Kind::of(head.kind).expect("keys are of kinds");
+        let turned = match head.is_cancelled() {
+            true => self.counted(random, kind),
+            false => Case::cancelled(kind),
+        };
+        let correction = head.correction.0.saturating_add(1);
+        let turned = turned.with_sequence(key.1).with_correction(correction);
+        self.records.insert(key, turned);
     }
 
     /// Returns whether a BASELINE is counted.
@@ -113,12 +141,12 @@ impl History {
         self.records.values().any(is_counted)
     }
 
-    /// Returns a kind, which is seldom a BASELINE if one is counted already.
+    /// Returns a kind, which is less often a BASELINE if one is counted already.
     fn kind(&self, random: &mut Random) -> Kind {
         match random.below(12) {
-            0 => Kind::Baseline,
-            1..=5 if !self.is_based() => Kind::Baseline,
-            1..=6 => Kind::PermDelta,
+            0..=2 => Kind::Baseline,
+            3..=5 if !self.is_based() => Kind::Baseline,
+            3..=7 => Kind::PermDelta,
             _ => Kind::TempDelta,
         }
     }
@@ -179,12 +207,13 @@ impl History {
     fn times(&self, random: &mut Random, kind: Kind) -> [u32; 4] {
         let mut from = random.below(INSTANTS);
         if kind == Kind::Baseline {
-            // Mostly an early begin.
-            from = random.below(1 + from / 2);
+            // Mostly an early begin, and often one that another BASELINE has.
+            from = random.below(1 + from);
         }
         let begin = self.begin + from as u32;
-        let end = match random.below(2) {
-            0 => NONE,
+        let end = match random.below(4) {
+            0 | 1 => NONE,
+            2 if kind == Kind::Baseline => NONE,
             _ if from + 1 == INSTANTS => NONE,
             _ => self.instant(random, from + 1),
         };
@@ -193,8 +222,8 @@ impl History {
             Kind::TempDelta => [begin, end, NONE, NONE],
             Kind::PermDelta => match random.below(10) {
                 0 => [begin, NONE, NONE, begin],
-                1 => [begin, NONE, begin, NONE],
-                2..=6 if !self.is_based() => [begin, NONE, begin, NONE],
+                1 | 2 => [begin, NONE, begin, NONE],
+                3..=6 if !self.is_based() => [begin, NONE, begin, NONE],
                 _ => [begin, NONE, NONE, NONE],
             },
         }
@@ -243,7 +272,9 @@ impl History {
 mod tests {
     use super::*;
     use crate::question::property;
+    use crate::record::{Head, Sequence};
     use crate::table::{check, Sides};
+    use std::collections::BTreeSet;
 
     /// Every history is sound, and each answer occurs often.
     #[test]
@@ -251,7 +282,7 @@ mod tests {
         let mut random = Random::new(5);
         let mut history = History::new(&mut random);
         let mut counts = BTreeMap::new();
-        for _ in 0..600 {
+        for _ in 0..1000 {
             history.go_on(&mut random, 20);
             let tables = history.tables();
             assert_eq!(check(&tables.permanent, Sides::Permanent), Ok(()));
@@ -265,5 +296,62 @@ mod tests {
         }
         assert_eq!(counts.len(), 6, "{counts:?}");
         assert!(counts.values().all(|&count| count > 100), "{counts:?}");
+    }
+
+    /// Returns the heads of a history's BASELINEs: those that count, and those that are cancelled.
+    fn baselines(history: &History) -> (Vec<Head>, Vec<Head>) {
+        let heads = history.records.values().map(Case::head);
+        let baselines = heads.filter(|head| head.kind == Kind::Baseline.byte());
+        baselines.partition(|head| !head.is_cancelled())
+    }
+
+    /// Returns the sequence numbers of the counted BASELINEs that close one without end.
+    fn closers(counted: &[Head]) -> BTreeSet<Sequence> {
+        let begins = || counted.iter().map(|one| one.period.begin);
+        let open = counted.iter().filter(|one| one.period.end.is_none());
+        let close = |one: &Head| begins().filter(|begin| *begin > one.period.begin).min();
+        let closes: Vec<_> = open.filter_map(close).collect();
+        let closing = counted
+            .iter()
+            .filter(|one| closes.contains(&one.period.begin));
+        closing.map(|one| one.sequence).collect()
+    }
+
+    /// BASELINEs are closed and begin together; what closes them is cancelled and comes back.
+    #[test]
+    fn open_ends_come_up_often() {
+        let mut random = Random::new(6);
+        let mut history = History::new(&mut random);
+        let (mut closing, mut gone) = (BTreeSet::new(), BTreeSet::new());
+        let mut counts = [0; 4];
+        for round in 0..2000 {
+            if round % 20 == 0 {
+                history = History::new(&mut random);
+                (closing, gone) = Default::default();
+            }
+            history.change(&mut random);
+            let (counted, cancelled) = baselines(&history);
+            let begins: BTreeSet<_> = counted.iter().map(|one| one.period.begin).collect();
+            let (before, gone_before) = (closing, gone);
+            closing = closers(&counted);
+            gone = cancelled.iter().map(|one| one.sequence).collect();
+            let found = [
+                !closing.is_empty(),
+                begins.len() < counted.len(),
+                !before.is_disjoint(&gone),
+                !gone_before.is_disjoint(&closing),
+            ];
+            for (count, found) in counts.iter_mut().zip(found) {
+                *count += usize::from(found);
+            }
+        }
+        let least = [400, 150, 40, 40];
+        assert!(
+            counts
+                .iter()
+                .zip(least)
+                .all(|(count, least)| *count > least),
+            "{counts:?}"
+        );
     }
 }

@@ -32,7 +32,7 @@ pub struct Library {
     pub listing: fn(&[u8], &mut [u8]) -> Reply,
 }
 
-/// The plain program, which derives in a walk, as the library does.
+/// The plain program, which derives in sweeps without a heap.
 pub const PLAIN: Library = Library {
     new_table: |table, side, feature| Reply::of_writing(plain::new_table(table, side, feature)),
     arrive: |table, slice| Reply::of_arrival(plain::arrive(table, slice)),
@@ -48,9 +48,9 @@ pub const PLAIN: Library = Library {
     touched: |temporary, instant, property| {
         Reply::of_touched(plain::touched(temporary, instant, property))
     },
-    derive: |permanent, output| Reply::of_derived(plain::derive_by_walk(permanent, output)),
+    derive: |permanent, output| Reply::of_derived(plain::derive_by_sweeps(permanent, output)),
     listing: |permanent, text| {
-        Reply::of_listing(plain::list(permanent, text, plain::derive_by_walk))
+        Reply::of_listing(plain::list(permanent, text, plain::derive_by_sweeps))
     },
 };
 
@@ -59,15 +59,6 @@ pub const BY_STEPS: Library = Library {
     derive: |permanent, output| Reply::of_derived(plain::derive_by_steps(permanent, output)),
     listing: |permanent, text| {
         Reply::of_listing(plain::list(permanent, text, plain::derive_by_steps))
-    },
-    ..PLAIN
-};
-
-/// The plain program that derives in sweeps without a heap.
-pub const BY_SWEEPS: Library = Library {
-    derive: |permanent, output| Reply::of_derived(plain::derive_by_sweeps(permanent, output)),
-    listing: |permanent, text| {
-        Reply::of_listing(plain::list(permanent, text, plain::derive_by_sweeps))
     },
     ..PLAIN
 };

@@ -7,9 +7,8 @@ mod few;
 mod listing;
 mod standing;
 mod state;
-mod walk;
 
-pub use derive::{derive_by_steps, derive_by_sweeps, derive_by_walk, derive_on_heap};
+pub use derive::{derive_by_steps, derive_by_sweeps, derive_on_heap};
 pub use listing::list;
 pub use state::{permanent_state, property, snapshot, touched};
 

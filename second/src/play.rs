@@ -9,7 +9,7 @@ use crate::histories::History;
 use crate::layout::{bytes_of, RECORD_BYTES};
 use crate::random::Random;
 use crate::record::{Side, NONE};
-use crate::supply;
+use crate::supply::{self, Ends};
 use crate::table::Feature;
 use crate::tables::{permanent, Product, Question, Tables};
 
@@ -56,9 +56,11 @@ struct Round<'a, P: Player> {
     output: Vec<u8>,
 }
 
-/// The small histories of a round that are asked about, and those that baselines are derived from.
+/// The small histories of a round that are asked about, those that baselines are derived from, and
+/// those that are delivered slice by slice.
 const HISTORIES: usize = 240;
 const DERIVED: usize = 40;
+const CLOSINGS: usize = 8;
 
 /// Plays one round of every sort of call, on tables of at most this many records, 40 or more.
 pub fn round<P: Player>(player: &mut P, seed: u64, most: usize) -> Result<(), P::Fault> {
@@ -68,6 +70,7 @@ pub fn round<P: Player>(player: &mut P, seed: u64, most: usize) -> Result<(), P:
     round.damaged_bytes()?;
     round.delivery()?;
     round.histories()?;
+    round.closings()?;
     round.crowd()?;
     round.derived()?;
     round.many_derived()
@@ -205,6 +208,13 @@ impl<'a, P: Player> Round<'a, P> {
         self.player.call(&mut self.record, &call)
     }
 
+    /// Returns an instant that matters in two tables, or sometimes any other.
+    fn some_instant(&mut self, tables: &Tables) -> u32 {
+        let mut instants = tables.instants();
+        instants.push(self.random.bits() as u32 % NONE);
+        self.random.pick(&instants)
+    }
+
     /// Plays every question at each instant that matters in small histories, and odd questions.
     fn histories(&mut self) -> Result<(), P::Fault> {
         let mut history = History::new(&mut self.random);
@@ -221,9 +231,32 @@ impl<'a, P: Player> Round<'a, P> {
         Ok(())
     }
 
+    /// Plays deliveries of BASELINEs that close each other; after each slice, the state at every
+    /// instant that matters, every question at some instant, and what is made of the table.
+    fn closings(&mut self) -> Result<(), P::Fault> {
+        for _ in 0..CLOSINGS {
+            let mut tables = Tables::empty(bytes_of(4));
+            for slice in supply::closings(&mut self.random) {
+                self.arrive(&mut tables.permanent, &slice)?;
+                let asked = |instant| Asked {
+                    tables: &tables,
+                    instant,
+                };
+                let instant = self.some_instant(&tables);
+                self.every_question(&asked(instant))?;
+                for instant in tables.instants() {
+                    self.ask(&asked(instant), Question::State)?;
+                }
+                self.products(&tables.permanent, &[bytes_of(12)])?;
+            }
+        }
+        Ok(())
+    }
+
     /// Plays every question at some instants of one large history.
     fn crowd(&mut self) -> Result<(), P::Fault> {
-        let tables = Tables::of(&supply::crowd(&mut self.random, self.most));
+        let ends = self.random.pick(&Ends::ALL);
+        let tables = Tables::of(&supply::crowd(&mut self.random, self.most, ends));
         let instants = tables.instants();
         for _ in 0..8 {
             let instant = self.random.pick(&instants);
@@ -327,7 +360,8 @@ impl<'a, P: Player> Round<'a, P> {
     /// more.
     fn many_derived(&mut self) -> Result<(), P::Fault> {
         let most = bytes_of(self.most);
-        let any = permanent(&supply::crowd(&mut self.random, self.most));
+        let ends = self.random.pick(&Ends::ALL);
+        let any = permanent(&supply::crowd(&mut self.random, self.most, ends));
         let less = self.random.pick(&[0, 1, 2]);
         let tables = [any, permanent(&apart(self.most as u32 + 1 - less))];
         for table in tables {

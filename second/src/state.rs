@@ -18,15 +18,41 @@ pub struct State {
     properties: [Option<Value>; PROPERTIES],
 }
 
-/// Returns the counted records of a kind whose period has the instant, in the order of their
-/// sequence numbers.
-fn counted(table: &Table, kind: Kind, instant: Instant) -> impl Iterator<Item = &Record> {
+/// Returns the counted records of a kind in the order of their sequence numbers.
+fn counted(table: &Table, kind: Kind) -> impl Iterator<Item = &Record> {
     let is_counted = |record: &&Record| !record.head.is_cancelled();
     table
         .records
         .values()
         .filter(is_counted)
-        .filter(move |record| record.head.kind == kind.byte() && record.head.period.has(instant))
+        .filter(move |record| record.head.kind == kind.byte())
+}
+
+/// Returns the least begin, strictly after a BASELINE's own, of any other counted BASELINE.
+fn next_begin(table: &Table, baseline: &Record) -> Option<Instant> {
+    counted(table, Kind::Baseline)
+        .filter_map(|other| other.head.period.begin)
+        .filter(|&begin| Some(begin) > baseline.head.period.begin)
+        .min()
+}
+
+/// Returns the period of a counted record. A BASELINE whose end is none closes at the next begin; a
+/// fixed end stays as it was sent.
+fn period(table: &Table, record: &Record) -> Span {
+    let sent = record.head.period;
+    if record.head.kind != Kind::Baseline.byte() || sent.end.is_some() {
+        return sent;
+    }
+    Span {
+        end: next_begin(table, record),
+        ..sent
+    }
+}
+
+/// Returns the counted records of a kind whose period has the instant, in the order of their
+/// sequence numbers.
+fn valid(table: &Table, kind: Kind, instant: Instant) -> impl Iterator<Item = &Record> {
+    counted(table, kind).filter(move |record| period(table, record).has(instant))
 }
 
 /// Returns the only anchor, if there is one, or 21 if there are more.
@@ -39,11 +65,11 @@ fn only<'a>(anchors: impl Iterator<Item = &'a Record>) -> Result<Option<&'a Reco
 /// Returns the anchor, the BASELINE at the instant or else the opening PERMDELTA by then; or 21 or
 /// 20.
 fn anchor(table: &Table, instant: Instant) -> Result<&Record, Refusal> {
-    if let Some(baseline) = only(counted(table, Kind::Baseline, instant))? {
+    if let Some(baseline) = only(valid(table, Kind::Baseline, instant))? {
         return Ok(baseline);
     }
     let is_opening = |record: &&Record| record.head.life.begin.is_some();
-    let openings = counted(table, Kind::PermDelta, instant).filter(is_opening);
+    let openings = valid(table, Kind::PermDelta, instant).filter(is_opening);
     only(openings)?.ok_or(Refusal::NoState)
 }
 
@@ -66,7 +92,7 @@ fn follows(change: &Record, anchor: &Record) -> bool {
 /// first; or 21, 20 or 22.
 pub fn lasting(table: &Table, instant: Instant) -> Result<Vec<&Record>, Refusal> {
     let anchor = anchor(table, instant)?;
-    let mut applied: Vec<&Record> = counted(table, Kind::PermDelta, instant)
+    let mut applied: Vec<&Record> = valid(table, Kind::PermDelta, instant)
         .filter(|change| follows(change, anchor))
         .collect();
     applied.sort_by_key(|change| turn(change));
@@ -78,7 +104,7 @@ pub fn lasting(table: &Table, instant: Instant) -> Result<Vec<&Record>, Refusal>
 
 /// Returns the TEMPDELTAs of the instant in the order in which they are applied.
 pub fn passing(table: &Table, instant: Instant) -> Vec<&Record> {
-    counted(table, Kind::TempDelta, instant).collect()
+    valid(table, Kind::TempDelta, instant).collect()
 }
 
 /// Returns whether a record mentions a property.
@@ -258,6 +284,96 @@ mod tests {
         let records = [&records[..], &[baseline(4, [249, 250, NONE, NONE])]].concat();
         assert_eq!(applied(&records, 248), Ok(vec![3, 2]));
         assert_eq!(applied(&records, 249), Err(21));
+    }
+
+    /// Makes a BASELINE of a period that gives no life time.
+    fn from_to(sequence: u32, begin: u32, end: u32) -> Record {
+        baseline(sequence, [begin, end, NONE, NONE])
+    }
+
+    /// Returns the sequence number of the only record applied at each instant, or the number of the
+    /// refusal.
+    fn anchors<const N: usize>(records: &[Record], instants: [u32; N]) -> [Result<u32, u8>; N] {
+        instants.map(|instant| {
+            let applied = applied(records, instant)?;
+            assert_eq!(applied.len(), 1);
+            Ok(applied[0])
+        })
+    }
+
+    /// "A BASELINE whose end is none shall close at the least begin, strictly after its own, of any
+    /// other counted BASELINE."
+    #[test]
+    fn an_open_baseline_closes_at_the_next_begin() {
+        let records = [(9, 100), (4, 200), (7, 150)].map(|(one, begin)| from_to(one, begin, NONE));
+        assert_eq!(
+            anchors(&records, [99, 100, 149, 150, 199, 200, NONE - 1]),
+            [Err(20), Ok(9), Ok(9), Ok(7), Ok(7), Ok(4), Ok(4)]
+        );
+        let records = [from_to(1, 0, NONE), from_to(2, NONE - 1, NONE)];
+        assert_eq!(
+            anchors(&records, [0, NONE - 2, NONE - 1]),
+            [Ok(1), Ok(1), Ok(2)]
+        );
+    }
+
+    /// "Fixed ends stay as sent": such a BASELINE closes an open one for good, and is closed by none.
+    #[test]
+    fn fixed_ends_stay_as_sent() {
+        let records = [from_to(1, 100, NONE), from_to(2, 150, 160)];
+        assert_eq!(
+            anchors(&records, [149, 150, 159, 160, NONE - 1]),
+            [Ok(1), Ok(2), Ok(2), Err(20), Err(20)]
+        );
+        let records = [from_to(1, 100, 200), from_to(2, 150, NONE)];
+        assert_eq!(
+            anchors(&records, [149, 150, 199, 200]),
+            [Ok(1), Err(21), Err(21), Ok(2)]
+        );
+        let records = [from_to(1, 100, 200), from_to(2, 200, NONE)];
+        assert_eq!(anchors(&records, [199, 200]), [Ok(1), Ok(2)]);
+    }
+
+    /// "Equal begins still clash", until the next later begin closes those that are open.
+    #[test]
+    fn equal_begins_still_clash() {
+        let open = [from_to(1, 100, NONE), from_to(2, 100, NONE)];
+        assert_eq!(anchors(&open, [100, NONE - 1]), [Err(21); 2]);
+        let closed = [open[0], open[1], from_to(3, 150, NONE)];
+        assert_eq!(anchors(&closed, [149, 150]), [Err(21), Ok(3)]);
+        let fixed = [open[0], from_to(2, 100, 160)];
+        assert_eq!(anchors(&fixed, [100, 159, 160]), [Err(21), Err(21), Ok(1)]);
+        let closed = [fixed[0], fixed[1], from_to(3, 150, NONE)];
+        assert_eq!(
+            anchors(&closed, [149, 150, 159, 160]),
+            [Err(21), Err(21), Err(21), Ok(3)]
+        );
+    }
+
+    /// "Any other counted BASELINE": a cancelled one closes nothing, nor does a PERMDELTA.
+    #[test]
+    fn only_counted_baselines_close() {
+        let mut gone = from_to(2, 150, NONE);
+        gone.head.flags = 1;
+        let records = [from_to(1, 100, NONE), gone];
+        assert_eq!(anchors(&records, [150, NONE - 1]), [Ok(1); 2]);
+        let records = [from_to(1, 100, NONE), opening(2, 150), change(3, 160)];
+        assert_eq!(applied(&records, 160), Ok(vec![1, 2, 3]));
+        let records = [from_to(1, 200, NONE), opening(2, 150)];
+        assert_eq!(anchors(&records, [150, 200]), [Ok(2), Ok(1)]);
+    }
+
+    /// Where a closed BASELINE leaves a gap, "an opening PERMDELTA" is the anchor again.
+    #[test]
+    fn an_opening_takes_over_after_a_close() {
+        let openings = [opening(1, 90), change(2, 120), change(3, 155)];
+        let both = [from_to(8, 100, NONE), from_to(9, 150, 160)];
+        let records = [&openings[..], &both].concat();
+        assert_eq!(applied(&records, 99), Ok(vec![1]));
+        assert_eq!(applied(&records, 149), Ok(vec![8, 2]));
+        assert_eq!(applied(&records, 150), Ok(vec![9]));
+        assert_eq!(applied(&records, 159), Ok(vec![9, 3]));
+        assert_eq!(applied(&records, 160), Ok(vec![1, 2, 3]));
     }
 
     /// "If the life end is then given and at most t: 22."

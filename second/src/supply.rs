@@ -1,5 +1,6 @@
 //! Random sound slices, sound tables and deliveries of many slices, and damage to all of them.
 
+use crate::fixtures::brief::{cancelling, from_to, opening};
 use crate::fixtures::{self, Area, Case, FEATURE, FLAGS, KIND, RECORD, SPARE, TIMES};
 use crate::layout::{bytes_of, HEADER_BYTES, PROPERTIES, RECORD_BYTES};
 use crate::random::Random;
@@ -138,22 +139,60 @@ pub fn delivery(random: &mut Random, side: Side, count: usize) -> Vec<Vec<u8>> {
     mingled(random, slices)
 }
 
+/// Makes a delivery of a few BASELINEs, mostly without end, and an opening: up to three corrections
+/// each, some of which cancel, in any order. They begin close together.
+pub fn closings(random: &mut Random) -> Vec<Vec<u8>> {
+    let first = random.pick(&[0, 100, NONE - 4]);
+    let mut slices = vec![];
+    for sequence in 0..4 {
+        for correction in 0..=random.below(3) as u16 {
+            let begin = first + random.below(4) as u32;
+            let case = match random.below(4) {
+                _ if sequence == 0 => opening(sequence, begin, 9),
+                0 => from_to(sequence, begin, begin + 1),
+                _ => from_to(sequence, begin, NONE),
+            };
+            let case = match random.below(4) {
+                0 => cancelling(&case, correction),
+                _ => case.with_correction(correction),
+            };
+            slices.push(case.slice);
+        }
+    }
+    shuffle(random, &mut slices);
+    slices
+}
+
 /// How long each BASELINE of a crowd holds; the next one begins where it ends.
 pub const STRETCH: usize = 100;
 
+/// How the BASELINEs of a crowd end.
+#[derive(Clone, Copy, Debug)]
+pub enum Ends {
+    /// Where the next one begins.
+    Fixed,
+    /// Without an end of their own: the next one closes each.
+    Open,
+    /// Either way, and some are cancelled.
+    Any,
+}
+
+impl Ends {
+    /// Every way.
+    pub const ALL: [Ends; 3] = [Ends::Fixed, Ends::Open, Ends::Any];
+}
+
 /// Makes this many slices for each side: a row of BASELINEs, three times as many changes anywhere
 /// in it, and TEMPDELTAs of any period; properties of forms at random, and some deltas cancelled.
-pub fn crowd(random: &mut Random, count: usize) -> Vec<Case> {
+pub fn crowd(random: &mut Random, count: usize, ends: Ends) -> Vec<Case> {
     let baselines = count / 4;
     let mut cases = vec![];
     for index in 0..count {
-        let begin = (index * STRETCH) as u32;
         let [instant, passing] = [(); 2].map(|()| random.below(baselines * STRETCH) as u32);
         let length = 1 + random.below(5000) as u32;
         let end = random.pick(&[NONE, passing + length]);
         cases.push(if index < baselines {
-            let times = [begin, begin + STRETCH as u32, NONE, NONE];
-            one_of_many(random, Kind::Baseline, index, times)
+            one_of_row(random, index, ends)
         } else {
             one_of_many(random, Kind::PermDelta, index, [instant, NONE, NONE, NONE])
         });
@@ -161,6 +200,21 @@ pub fn crowd(random: &mut Random, count: usize) -> Vec<Case> {
         cases.push(one_of_many(random, Kind::TempDelta, index, times));
     }
     cases
+}
+
+/// Makes a BASELINE of a crowd.
+fn one_of_row(random: &mut Random, index: usize, ends: Ends) -> Case {
+    let [begin, next] = [index, index + 1].map(|index| (index * STRETCH) as u32);
+    let end = match ends {
+        Ends::Fixed => next,
+        Ends::Open => NONE,
+        Ends::Any => random.pick(&[next, NONE]),
+    };
+    let case = one_of_many(random, Kind::Baseline, index, [begin, end, NONE, NONE]);
+    match ends {
+        Ends::Any if random.below(8) == 0 => cancelling(&case, 3),
+        _ => case,
+    }
 }
 
 /// Makes a slice of a kind with these times; a delta may be cancelled.
@@ -313,6 +367,7 @@ fn drift_time(mut case: Case, random: &mut Random) -> Case {
 #[cfg(test)]
 mod tests {
     use super::*;
+    use crate::slice;
     use crate::table::{check, Sides, Table};
 
     /// Tables are sound, whatever their number of records.
@@ -326,6 +381,27 @@ mod tests {
                 assert_eq!((table.side, table.records.len()), (side, count));
             }
         }
+    }
+
+    /// Every slice is sound; some cancel, some have an end, and some begin at the last instant.
+    #[test]
+    fn closings_are_sound_and_of_every_sort() {
+        let mut random = Random::new(5);
+        let slices: Vec<_> = (0..50).flat_map(|_| closings(&mut random)).collect();
+        for slice in &slices {
+            assert_eq!(
+                slice::check(slice, &FEATURE, Side::Permanent.byte()),
+                Ok(())
+            );
+        }
+        let often = |is: fn(&[u8]) -> bool| slices.iter().filter(|slice| is(slice)).count() > 20;
+        assert!(often(|slice| slice[FLAGS] == 1));
+        assert!(often(
+            |slice| slice[KIND] == 1 && slice[TIMES + 4..TIMES + 8] < [255; 4][..]
+        ));
+        assert!(often(
+            |slice| slice[TIMES..TIMES + 4] == [255, 255, 255, 254]
+        ));
     }
 
     /// Most damaged tables are refused.

@@ -2,6 +2,10 @@
 
 use crate::fixtures::{self, Case};
 use crate::layout::bytes_of;
+#[cfg(test)]
+use crate::layout::{HEAD_BYTES, PROPERTY_BYTES, RECORD_BYTES};
+#[cfg(test)]
+use crate::question::{property, snapshot};
 use crate::record::{Kind, Record, Side, NONE};
 use crate::table::{Sides, Table};
 use std::collections::BTreeSet;
@@ -63,6 +67,25 @@ impl Tables {
         match side {
             Side::Permanent => &mut self.permanent,
             Side::Temporary => &mut self.temporary,
+        }
+    }
+
+    /// Returns property 0 at an instant, a code or 0 for nil; "-" if nothing mentions it, or "!" and
+    /// the number of the refusal. The snapshot must agree with it.
+    #[cfg(test)]
+    pub fn value_at(&self, instant: u32) -> String {
+        let (permanent, temporary) = (&self.permanent, &self.temporary);
+        let mut record = [0; RECORD_BYTES];
+        let written = snapshot(permanent, temporary, instant, &mut record);
+        let part = property(permanent, temporary, instant, 0);
+        assert_eq!(written, part.map(|_| ()));
+        match part {
+            Err(refusal) => format!("!{}", refusal.number()),
+            Ok(None) => "-".to_string(),
+            Ok(Some(part)) => {
+                assert_eq!(record[HEAD_BYTES..HEAD_BYTES + PROPERTY_BYTES], part.bytes);
+                u16::from_be_bytes([part.bytes[8], part.bytes[9]]).to_string()
+            }
         }
     }
 

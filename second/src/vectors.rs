@@ -17,6 +17,7 @@ mod filing;
 pub mod format;
 mod listed;
 mod lives;
+mod open_ends;
 mod overlays;
 pub mod parts;
 mod refusals;
@@ -100,6 +101,7 @@ pub fn all() -> Script {
     examples::add(&mut script);
     refusals::add(&mut script);
     anchors::add(&mut script);
+    open_ends::add(&mut script);
     lives::add(&mut script);
     overlays::add(&mut script);
     revivals::add(&mut script);
@@ -435,8 +437,8 @@ mod tests {
         let (one, other) = (all(), all());
         assert!(one.input() == other.input() && one.answers() == other.answers());
         for script in (1..=SEEDS).map(random).chain([one]) {
-            assert!(script.input().len() <= 2_621_440);
-            assert!(script.answers().len() <= 1_900_544);
+            assert!(script.input().len() <= 4_194_304);
+            assert!(script.answers().len() <= 3_145_728);
             assert!(script.input().is_ascii());
         }
     }

@@ -15,14 +15,12 @@ pub mod Right
 pub mod Decided
 -- the walk from one change instant to the next, and the records drawn so far
 pub mod Walked
--- the three ways to the permanent state of the next instant, and the record that says it
+-- the record of a state that is asked for says it
 pub mod Reached
--- what the noted times tell: the BASELINE that holds, the PERMDELTAs of an instant, the next change instant
+-- what the noted times tell: the next change instant
 pub mod Noted
--- the record of the state that is carried along, and what writing into it changes
+-- the record of a state, and what it becomes with another front
 pub mod Carried
--- a BASELINE's own record says the state that it starts
-pub mod Based
 -- what the answer about one change instant tells of the state there
 pub mod Standings
 -- a slice written as a record is read back as that slice

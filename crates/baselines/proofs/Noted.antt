@@ -1,22 +1,20 @@
--- What the noted times of a sound table tell of its slices: the BASELINE that holds at an instant, the PERMDELTAs of an instant,
--- and the next change instant. And that the BASELINEs of a table in order stand in front. Assumes nothing.
+-- What the noted times of a sound table tell of its slices: the next change instant. And that the BASELINEs of a table in order stand in front. Assumes nothing.
 use Prim.Native.Nat.{ℕ, zero, suc, _+_, _-_, _≤_, _<_}
 use mathlib.Core.Path.{_≡_, refl, sym, ap, _∙_, subst}
-use mathlib.Core.List.{List, [], _∷_}
-use mathlib.Core.Bool.{true, false}
+use mathlib.Core.List.{List}
+use mathlib.Core.Bool.{true}
 use mathlib.Core.Logic.{_⊎_, inl, inr, ⊎-elim}
-use lib.ListN.{length, drop, getD, length-drop}
+use lib.ListN.{drop, getD, length-drop}
 use lib.Seq.{getD-drop}
-use lib.Dec.{leb, ltb, eqb}
-use borrow.Author.Tests.{eqb-true, eq-eqb, ne-eqb}
-use Rattle.laws.specs.Lists.{kept}
+use lib.Dec.{ltb, eqb}
+use borrow.Author.Tests.{eqb-true, eq-eqb}
 use Rattle.laws.specs.Keyed.{In, Rising}
-use Rattle.laws.proofs.Tests.{tests, pick-ind, by-test, contrary, and-both, or-either}
+use Rattle.laws.proofs.Tests.{tests, pick-ind, by-test, and-both, or-either}
 use Rattle.laws.proofs.Lists.{getD-in, in-at}
 use Rattle.laws.proofs.Put.{rising-drop}
 use Rattle.octets.specs.Bytes.{byteOf, beOf, digits, each, there, filled}
 use Rattle.octets.proofs.Runs.{filled-join}
-use Rattle.numbers.specs.Numbers.{noInstant, none, isNone, before, atMost, sameInstant}
+use Rattle.numbers.specs.Numbers.{noInstant, none}
 use Rattle.numbers.specs.declared.Instant.{Instant}
 use Rattle.numbers.proofs.Orders.{instant-of}
 use Rattle.slice.specs.Record.{baseline, permdelta, ofSide, recordSize, kindOf, keyLess, sameKey, periodOf, lifeOf, Slice, viewOf}
@@ -29,21 +27,15 @@ use Rattle.table.specs.declared.check.Sides.the-variants.{Permanent}
 use Rattle.table.proofs.Records.{record-in}
 use Rattle.table.proofs.Sound.{sound-table, order-sound}
 use Rattle.table.proofs.Stays.{sound-in}
-use Rattle.history.specs.Counted.{counts, holds, sliceKey}
-use Rattle.history.specs.Period.{until}
-use Rattle.history.specs.Anchor.{stands, opens, based, opened, nowhere, only, anchor}
-use Rattle.history.specs.State.{State, applied, appliedAll}
-use Rattle.history.specs.Onward.{changesAt}
+use Rattle.history.specs.Counted.{counts, sliceKey}
 use Rattle.history.specs.Changes.{changesBy, changeInstants, nextOf}
 use Rattle.history.proofs.Orders.{counts-kind}
 use Rattle.history.proofs.Changes.{Changing, Bounded, begin-changing, end-changing, life-changing, delta-changing, changes-from}
 use Rattle.history.proofs.Changes.{later, later-next, later-least, walk-below}
-use Rattle.history.proofs.Selection.{kept-nowhere, kept-one, kept-behind}
 use Rattle.state.specs.Asking.{slicesOf}
 use Rattle.state.proofs.Slices.{slices-length, slices-rising, slices-at, slice-at}
-use Rattle.state.proofs.Front.{kinds-rise}
-use Rattle.baselines.specs.Noted.{Noted, Fronted, LastOpening, Least, HeldBy, lies}
-use Rattle.baselines.specs.Carried.{Held}
+use Rattle.state.proofs.BaselinesFirst.{kinds-rise}
+use Rattle.baselines.specs.Noted.{Noted, Fronted, Least}
 use Rattle.baselines.specs.Steps.{changeSince}
 
 -- ---- the BASELINEs of a table in order stand in front
@@ -121,111 +113,9 @@ module _ (p begins ends gones : List ℕ) (front : ℕ) (sound : checkTable Perm
       ⊎-elim (λ e. inl (eqb-true _ _ e)) (λ e. inr (eqb-true _ _ e))
       (or-either (eqb (kindOf (at j)) baseline) (eqb (kindOf (at j)) permdelta) (rw s at (here j h .kind)))
 
-  -- the first are BASELINEs, those behind them PERMDELTAs
+  -- the first are BASELINEs
   front-kind : (j : ℕ) → j < front → kindOf (at j) ≡ baseline
   front-kind j h = ⊎-elim (λ e. e) (λ e. absurd (omega (tests, fronted .front j h))) (two-kinds j (omega (tests, fronted .most)))
-
-  behind-kind : (j : ℕ) → front ≤ j → j < countOf p → kindOf (at j) ≡ permdelta
-  behind-kind j h k = ⊎-elim (λ e. absurd (omega (tests, fronted .behind j h k))) (λ e. e) (two-kinds j k)
-
-  module _ (t : Instant) (given′ : t .0 < noInstant) where
-    -- ---- the BASELINE that holds
-    -- a BASELINE holds where the instant lies in its noted period
-    stands-front : (j : ℕ) → j < front → stands slices t (slice j) ≡ lies begins ends (t .0) j
-    unfolding stands counts holds until before atMost viewOf
-    stands-front j h =
-        let k : j < countOf p = omega (tests, fronted .most) in
-        let (b, e, g) = noted j k in
-        ⊎-elim
-        (λ x. let n : getD begins j 0 ≡ noInstant = b ∙ full-timeless (at j) (x .timeless) .0 in
-        let z : leb (getD begins j 0) (t .0) ≡ false = omega tests in
-        rw (front-kind j h, x .cancelled, z))
-        (λ x. rw (front-kind j h, x .uncancelled, b, e))
-        (here j k .rest)
-
-    stands-behind : (j : ℕ) → front ≤ j → j < countOf p → stands slices t (slice j) ≡ false
-    unfolding stands counts viewOf
-    stands-behind j h k = rw (behind-kind j h k)
-
-    -- whether a place holds, by its own record
-    stands-at : (d : Slice) (j : ℕ) → j < length slices → (j < front → lies begins ends (t .0) j ≡ false)
-        → stands slices t (getD slices j d) ≡ false
-    stands-at d j h others =
-        let k : j < countOf p = omega (tests, slices-length p) in
-        ap (stands slices t) (slice-at p j d k roomy)
-        ∙ by-test (ltb j front) (λ y. stands-front j (omega tests) ∙ others (omega tests)) (λ n. stands-behind j (omega tests) k)
-
-    -- no BASELINE holds where the instant lies in no noted period; the anchor is the record at the one place that it lies in
-    pub held-told : (count place : ℕ) → HeldBy (lies begins ends (t .0)) front count place → Held p t count place
-    unfolding anchor
-    held-told count place held = record {
-      none = λ e. kept-nowhere (stands slices t) (slice place) slices
-          (λ j h. stands-at (slice place) j h (λ l. held .none e .1 j l));
-      one = λ e. let (l, y, others) = held .one e in
-          let k : place < countOf p = omega (tests, fronted .most) in
-          let seen : getD slices place (slice place) ≡ slice place = slice-at p place (slice place) k roomy in (
-            k,
-            ap (only based (only opened nowhere (kept (opens t) slices)))
-                (kept-one (stands slices t) (slice place) slices place (omega (tests, slices-length p))
-                (ap (stands slices t) seen ∙ stands-front place l ∙ y)
-                (λ j h n. stands-at (slice place) j h (λ m. others j m n)) ∙ ap (λ (s : Slice). s ∷ []) seen),
-          );
-    }
-
-    -- ---- the PERMDELTAs of an instant
-    -- behind the front a record is one of the instant where it begins then
-    change-here : (i : ℕ) → front ≤ i → i < countOf p → changesAt t (slice i) ≡ eqb (getD begins i 0) (t .0)
-    unfolding changesAt counts sameInstant viewOf
-    change-here i h k =
-        let (b, e, g) = noted i k in
-        ⊎-elim
-        (λ x. let n : getD begins i 0 ≡ noInstant = b ∙ full-timeless (at i) (x .timeless) .0 in
-        let z : eqb (getD begins i 0) (t .0) ≡ false = omega tests in
-        rw (behind-kind i h k, x .cancelled, z))
-        (λ x. rw (behind-kind i h k, x .uncancelled, b))
-        (here i k .rest)
-
-    -- the next record is applied, or passed over
-    module _ (i : ℕ) (h : front ≤ i) (k : i < countOf p) where
-      pub next-applied : (u : State) → getD begins i 0 ≡ t .0
-          → appliedAll u (kept (changesAt t) (drop i slices)) ≡ appliedAll (applied u (slice i))
-          (kept (changesAt t) (drop (i + 1) slices))
-      next-applied u e = ap (λ (l : List Slice). appliedAll u (kept (changesAt t) l)) (slices-at p i k roomy)
-          ∙ rw (change-here i h k ∙ eq-eqb (getD begins i 0) (t .0) e)
-
-      pub next-passed : (getD begins i 0 ≡ t .0 → ⊥) → kept (changesAt t) (drop i slices) ≡ kept (changesAt t) (drop (i + 1) slices)
-      next-passed e = ap (kept (changesAt t)) (slices-at p i k roomy) ∙ rw (change-here i h k ∙ ne-eqb (getD begins i 0) (t .0) e)
-
-  -- and in front none is
-  front-none : (t : Instant) (j : ℕ) → j < front → changesAt t (slice j) ≡ false
-  unfolding changesAt counts viewOf
-  front-none t j h = rw (front-kind j h)
-
-  -- so those of an instant stand behind the front
-  pub front-still : (t : Instant) → kept (changesAt t) slices ≡ kept (changesAt t) (drop front slices)
-  front-still t =
-      kept-behind (changesAt t) (slice 0) front slices
-      (λ j h k. ap (changesAt t) (slice-at p j (slice 0) (omega (tests, slices-length p)) roomy) ∙ front-none t j h)
-
-  -- after the last opening no PERMDELTA of an instant opens the life
-  pub quiet : (last : ℕ) → LastOpening p front (countOf p) last → (t : Instant) → t .0 < noInstant → last < t .0
-      → (d : Slice) → In d slices → changesAt t d ≡ true → isNone (d .life .begin) ≡ true
-  unfolding viewOf
-  quiet last openings t late after d m y =
-      let (j, h, e) = in-at slices d (slice 0) m in
-      let k : j < countOf p = omega (tests, slices-length p) in
-      let seen : slice j ≡ d = sym (slice-at p j (slice 0) k roomy) ∙ e in
-      by-test (ltb j front) (λ z. contrary (ap (changesAt t) seen ∙ y) (front-none t j (omega tests)))
-      (λ z. let here′ : getD begins j 0 ≡ t .0 =
-      eqb-true _ _ (sym (change-here t late j (omega tests) k) ∙ ap (changesAt t) seen ∙ y) in
-      by-test (isNone (d .life .begin)) (λ n. n)
-      (λ g. absurd
-      (omega (
-        tests,
-        noted j k .0,
-        openings .most j _ (omega tests) k
-            (ap (λ (s : Slice). isNone (s .life .begin)) seen ∙ g, refl),
-      ))))
 
   -- ---- the next change instant
   abbrev instant : ℕ → Instant

@@ -37,7 +37,7 @@ use Rattle.history.specs.Changes.{changeInstants}
 use Rattle.history.specs.Derived.{Stretch, stretches, filledIn, baselineOf, derivedBaselines}
 use Rattle.history.proofs.Orders.{counts-kind}
 use Rattle.history.proofs.Line.{known-line, line-within}
-use Rattle.history.proofs.ReadBack.{stretched, numbered-in}
+use Rattle.history.proofs.Stretches.{stretched, numbered-in}
 use Rattle.history.proofs.DerivedRules.{line-begun, Born, drawn-times, drawn-content}
 use Rattle.state.specs.Written.{nilUnknown}
 use Rattle.state.specs.Asking.{slicesOf, permanentTests}

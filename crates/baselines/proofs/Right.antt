@@ -42,7 +42,7 @@ use Rattle.history.proofs.Parts.{last-in, timeIn, line-begin, line-end, applied
 use Rattle.history.proofs.Line.{line-in, known-line, line-within}
 use Rattle.history.proofs.Changes.{changes-below}
 use Rattle.history.proofs.Steady.{Timely}
-use Rattle.history.proofs.ReadBack.{stretched}
+use Rattle.history.proofs.Stretches.{stretched}
 use Rattle.state.specs.Written.{nilUnknown}
 use Rattle.state.specs.Asking.{slicesOf}
 use Rattle.state.proofs.Slices.{rising-views, slice-view, slice-eight, slice-sized}

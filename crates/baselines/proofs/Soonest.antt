@@ -2,7 +2,6 @@
 use Prim.Native.Nat.{ℕ, _+_, _%_, _≤_, _<_, min}
 use mathlib.Core.Path.{_≡_, refl, sym, ap, _∙_}
 use mathlib.Core.List.{List}
-use mathlib.Core.Bool.{Bool, true, false}
 use mathlib.Core.Logic.{inl, inr, ⊎-elim}
 use lib.ListN.{length, getD, set}
 use lib.Seq.{getD-set-same, getD-set-other}
@@ -11,7 +10,7 @@ use Rattle.laws.proofs.Tests.{tests, by-test}
 use Rattle.numbers.specs.Numbers.{noInstant}
 use Rattle.slice.specs.Record.{recordSize, periodOf, lifeOf}
 use Rattle.table.specs.Header.{strideOf, recordAt}
-use Rattle.baselines.specs.Noted.{NotedAt, Least, HeldBy}
+use Rattle.baselines.specs.Noted.{NotedAt, Least}
 
 pub least-none : (since best : ℕ) (times : List ℕ) → Least since best times 0 best
 least-none since best times = record { one = inl refl; most = omega tests; least = λ j h. absurd (omega tests) }
@@ -64,27 +63,3 @@ noted-turn p begins ends gones i b e g h k l before x y z j q =
           (λ c. before j c .1) q,
       set-at gones i j g (lifeOf (at j) .end .0) l (λ c. z ∙ ap (λ (m : ℕ). lifeOf (at m) .end .0) (sym c)) (λ c. before j c .2) q,
     )
-
--- ---- places that pass a test
-pub held-none : (test : ℕ → Bool) → HeldBy test 0 0 0
-held-none test = record { none = λ _. (refl, λ j h. absurd (omega tests)); one = λ e. absurd (omega tests) }
-
-pub held-past : (test : ℕ → Bool) (i c p : ℕ) → HeldBy test i c p → test i ≡ false → HeldBy test (i + 1) c p
-held-past test i c p h n = record {
-  none = λ e. (h .none e .0, λ j k. more j k (h .none e .1 j));
-  one = λ e. let (l, y, others) = h .one e in (omega tests, y, λ j k d. more j k (λ s. others j s d));
-}
-  where
-    more : (j : ℕ) → j < i + 1 → (j < i → test j ≡ false) → test j ≡ false
-    more j k f = by-test (eqb j i) (λ y. let e : j ≡ i = omega tests in ap test e ∙ n) (λ y. f (omega tests))
-
-pub held-more : (test : ℕ → Bool) (i c p : ℕ) → HeldBy test i c p → test i ≡ true → HeldBy test (i + 1) (c + 1) (p + i)
-held-more test i c p h y = record {
-  none = λ e. absurd (omega tests);
-  one = λ e. let (z, none′) = h .none (omega tests) in
-      let q : p + i ≡ i = omega tests in
-      (omega tests, ap test q ∙ y, λ j k d. none′ j (strictly j k (λ s. d (s ∙ sym q))));
-}
-  where
-    strictly : (j : ℕ) → j < i + 1 → (j ≡ i → ⊥) → j < i
-    strictly j k d = by-test (eqb j i) (λ z. absurd (d (omega tests))) (λ z. omega tests)

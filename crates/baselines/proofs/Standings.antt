@@ -5,7 +5,6 @@ use mathlib.Core.List.{List}
 use mathlib.Core.Bool.{true, false}
 use native.Mathlib.Omega.{arith}
 use lib.ListN.{length}
-use lib.Dec.{eqb}
 use Rattle.laws.proofs.Tests.{contrary}
 use Rattle.laws.proofs.Replies.{refusal-apart, refusal-tells}
 use Rattle.numbers.specs.Numbers.{isNone}
@@ -21,7 +20,6 @@ use Rattle.history.specs.Derived.{hasTwo}
 use Rattle.state.specs.Asking.{slicesOf, stateAtOf, outcomeOf, outcomeReply}
 use Rattle.state.specs.declared.answer.Outcome.the-variants as outcome
 use Rattle.state.proofs.Stages.{order-left, left-asked}
-use Rattle.baselines.specs.Carried.{Shows, Left}
 use Rattle.baselines.specs.Steps.{stepOf}
 use Rattle.baselines.specs.declared.drawing.Step.{Step}
 
@@ -50,9 +48,3 @@ module _ (stride n : ℕ) (begin end : Instant) {step : Step} where
   pub step-most : (v : Standing) → step ≡ stepOf stride n begin end v → step .records ≤ 1
   step-most (refuses k) e = omega (arith, ap (λ (s : Step). s .records) e)
   step-most (known s) e = omega (arith, ap (λ (s : Step). s .records) e)
-
-  -- what is left of the instant
-  pub step-left : (v : Standing) (r : List ℕ) → step ≡ stepOf stride n begin end v → step .two ≡ false → Shows stride v r
-      → Left (eqb (step .records) 1) stride v r
-  step-left (refuses k) r e t shows = rw e (k, refl, ap (λ (s : Step). s .two) (sym e) ∙ t)
-  step-left (known s) r e t shows = rw e (s, refl, shows s refl)

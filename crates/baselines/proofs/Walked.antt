@@ -2,16 +2,14 @@
 use Prim.Native.Nat.{ℕ, suc, _+_, _*_, _≤_, _<_, min}
 use mathlib.Core.Path.{_≡_, refl, sym, ap, _∙_}
 use mathlib.Core.List.{List, [], _∷_, _++_, map, append-assoc, append-nil}
-use mathlib.Core.Bool.{Bool, true, false}
-use mathlib.Core.Logic.{inl, inr}
-use lib.Dec.{ltb}
+use mathlib.Core.Bool.{true, false}
 use native.Mathlib.Nat.{add-zero}
 use native.Mathlib.Omega.{arith}
 use lib.ListN.{length, take, drop, length-append, length-drop}
 use lib.Seq.{length-take-le, take-at}
 use borrow.Rule.Slice.PartMut.{midOf, postOf, putMid, same-len-mid, put-same}
-use Rattle.laws.specs.Lists.{any, kept, joined}
-use Rattle.laws.proofs.Tests.{tests, by-test}
+use Rattle.laws.specs.Lists.{any, joined}
+use Rattle.laws.proofs.Tests.{tests}
 use Rattle.laws.proofs.Lists.{take-past}
 use Rattle.laws.proofs.Pieces.{joined-append}
 use Rattle.numbers.specs.Numbers.{noInstant, none, isNone}
@@ -19,17 +17,15 @@ use Rattle.numbers.specs.declared.Instant.{Instant}
 use Rattle.numbers.proofs.Facts.{none-false}
 use Rattle.slice.specs.Record.{recordSize}
 use Rattle.table.specs.Header.{strideOf}
-use Rattle.history.specs.Anchor.{stands}
 use Rattle.history.specs.State.{State}
 use Rattle.history.specs.Permanent.{Standing, refuses, known, permanentAt}
 use Rattle.history.specs.Changes.{nextOf}
 use Rattle.history.specs.Derived.{hasTwo, twoAnchors, stretchesFrom, stretches, numberedFrom, derivedBaselines}
-use Rattle.history.proofs.Changes.{Bounded, later, later-least, justAfter, walk-all, walk-on, walk-below, walk-end, walk-next}
+use Rattle.history.proofs.Changes.{Bounded, later, justAfter, walk-all, walk-on, walk-below, walk-end, walk-next}
 use Rattle.state.specs.Written.{nilUnknown}
 use Rattle.state.specs.Asking.{slicesOf}
 use Rattle.baselines.specs.Laid.{recordFor}
 use Rattle.baselines.specs.Deriving.{derivedRecords}
-use Rattle.baselines.specs.Carried.{Left, Before}
 use Rattle.baselines.specs.Steps.{changeSince, drawnRecord, stepOf, afterStep, drawnOf, Drew}
 use Rattle.baselines.specs.declared.drawing.Step.{Step}
 use Rattle.baselines.specs.declared.drawing.Drawn.the-variants.{Records}
@@ -171,29 +167,6 @@ module _ (p : List ℕ) where
             let long : length last ≡ size = l ∙ ap (λ (m : ℕ). length (take m (drop from drawn))) t
             ∙ length-take-le size (drop from drawn) (simp length-drop (omega arith)) in
             put-behind from k last from-is (omega arith) long ∙ ap (λ (r : List ℕ). take (count * size) drawn ++ r) f))
-
-  -- ---- what is left of the change instant before
-  pub before-first : (begin : Instant) (free : Bool) (r : List ℕ) → begin ≡ changeSince (record { 0 = 0 }) p
-      → Before p begin false free r
-  unfolding changeSince
-  before-first begin free r e =
-      inl (refl, λ x m. omega (tests, ap (λ (t : Instant). t .0) e, later-least (slicesOf p) (record { 0 = 0 }) x m (omega tests)))
-
-  pub before-next : (begin end : Instant) (had free : Bool) (r : List ℕ) → end ≡ changeSince (justAfter begin) p → begin .0 < end .0
-      → Left had (strideOf p) (permanentAt begin (slicesOf p)) r
-      → (free ≡ true → kept (stands (slicesOf p) begin) (slicesOf p) ≡ []) → Before p end had free r
-  unfolding changeSince
-  before-next begin end had free r e l left bare =
-      inr (
-        begin,
-        l,
-        λ x m h. by-test (ltb (begin .0) (x .0))
-            (λ y. absurd
-            (omega (tests, ap (λ (t : Instant). t .0) e, later-least (slicesOf p) (justAfter begin) x m (omega tests))))
-            (λ n. omega tests),
-        left,
-        bare,
-      )
 
   -- ---- the end of the walk
   pub walked-all : (drawn : List ℕ) (begin : Instant) (count : ℕ) → Walked drawn begin count → isNone begin ≡ true

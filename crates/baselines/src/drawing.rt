@@ -6,26 +6,23 @@ ghost use lib.ListN.{length};
 ghost use Rattle.octets.specs.Writing.{bytesOf, pasted};
 ghost use Rattle.slice.specs.Record.{recordSize};
 ghost use Rattle.slice.specs.declared.check.Checked.the-variants.{Sound};
-ghost use Rattle.table.specs.Header.{countOf, strideOf};
+ghost use Rattle.table.specs.Header.{strideOf};
 ghost use Rattle.table.specs.Rules.{checkTable};
 ghost use Rattle.table.specs.declared.check.Sides.the-variants.{Permanent};
 ghost use Rattle.history.specs.Permanent.{Standing};
 ghost use Rattle.state.specs.Asking.{outcomeOf};
-ghost use Rattle.baselines.specs.Noted.{Noted, Fronted, LastOpening};
+ghost use Rattle.baselines.specs.Noted.{Noted, Fronted};
 ghost use Rattle.baselines.specs.Carried.{Shows};
 ghost use Rattle.baselines.specs.Steps.{stepOf, afterStep, drawnOf, Drew};
-use crate::onward::go_on;
-use crate::onward::past_of;
-use crate::times::Front;
 use crate::times::change_since;
-use crate::times::front_of;
-use crate::times::hold;
+use crate::times::front_end;
 use crate::times::note;
 use numbers::Instant;
 use numbers::SequenceNumber;
 use octets::put;
 use octets::put32;
 use state::Outcome;
+use state::state_at;
 use table::stride_of;
 
 // What one change instant gives: whether it has two anchors, and how many records.
@@ -102,30 +99,27 @@ fn walk(
     begins: &[u32],
     ends: &[u32],
     gones: &[u32],
-    front: Front,
+    front: usize,
     drawn: &mut [u8],
 ) -> Drawn
     requires { ⌜ (checkTable Permanent (now permanent) ≡ Sound)
         × (Noted (now permanent) (now begins) (now ends) (now gones)
-        × (Fronted (now permanent) (front .end)
-        × (LastOpening (now permanent) (front .end) (countOf (now permanent)) (front .opened)
+        × (Fronted (now permanent) front
         × ((length (now begins) ≡ 256)
         × ((length (now ends) ≡ 256)
-        × ((length (now gones) ≡ 256) × (length (now drawn) ≡ 257 * recordSize (strideOf (now permanent))))))))) ⌝ }
+        × ((length (now gones) ≡ 256) × (length (now drawn) ≡ 257 * recordSize (strideOf (now permanent)))))))) ⌝ }
     ensures answer { λ r. ⌜ r ≡ drawnOf (now (permanent .entry)) ⌝ }
     ensures buffer { λ r. ⌜ Drew r (now (permanent .entry)) (now (drawn .exit)) ⌝ }
 {
     let stride = stride_of(permanent);
     let size = 32 + 8 * stride;
     let mut current = [0u8; 224];
-    let mut past = past_of(0, 0);
-    let mut begin = change_since(permanent, begins, ends, gones, front.end, Instant(0));
+    let mut begin = change_since(permanent, begins, ends, gones, front, Instant(0));
     let mut count = 0;
     while !begin.is_none() {
         let next = Instant(begin.0 + 1);
-        let end = change_since(permanent, begins, ends, gones, front.end, next);
-        let held = hold(begins, ends, front.end, begin.0);
-        let told = go_on(&mut current, permanent, begins, front, held, past, begin);
+        let end = change_since(permanent, begins, ends, gones, front, next);
+        let told = state_at(permanent, begin, &mut current);
         let from = place_in(count, size);
         let sequence = SequenceNumber((count + 1) as u32);
         let record = &mut drawn[from..from + size];
@@ -133,7 +127,6 @@ fn walk(
         if step.two {
             return Drawn::Two;
         }
-        past = past_of(step.records, held.count);
         count += step.records;
         begin = end;
     }
@@ -156,7 +149,7 @@ pub(crate) fn draw_all(permanent: &[u8], drawn: &mut [u8]) -> Drawn
         &begins,
         &ends,
         &gones,
-        front_of(permanent),
+        front_end(permanent),
         drawn,
     )
 }

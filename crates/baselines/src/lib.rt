@@ -2,7 +2,6 @@
 // buffer, and asks nothing of its caller.
 mod derivation;
 mod drawing;
-mod onward;
 mod times;
 
 pub use derivation::Derivation;

@@ -1,14 +1,13 @@
 // The times of a table's records, noted once, and what they tell of an instant.
 ghost use mathlib.Core.Path.{_≡_};
-ghost use Prim.Native.Nat.{_+_, _≤_, min, max};
+ghost use Prim.Native.Nat.{_+_, _≤_, min};
 ghost use Rattle.numbers.specs.Numbers.{noInstant};
 ghost use lib.ListN.{length};
 ghost use Rattle.slice.specs.declared.check.Checked.the-variants.{Sound};
-ghost use Rattle.table.specs.Header.{countOf};
 ghost use Rattle.table.specs.Steps.{Whole};
 ghost use Rattle.table.specs.Rules.{checkTable, checkOrder};
 ghost use Rattle.table.specs.declared.check.Sides.the-variants.{Permanent};
-ghost use Rattle.baselines.specs.Noted.{Noted, Fronted, LastOpening, Least, HeldBy, lies};
+ghost use Rattle.baselines.specs.Noted.{Noted, Fronted, Least};
 ghost use Rattle.baselines.specs.Steps.{changeSince};
 use numbers::Instant;
 use octets::byte;
@@ -42,7 +41,7 @@ pub(crate) fn note(permanent: &[u8], begins: &mut [u32], ends: &mut [u32], gones
 }
 
 // How many BASELINEs stand in front of a table whose records are in order.
-fn front_end(permanent: &[u8]) -> usize
+pub(crate) fn front_end(permanent: &[u8]) -> usize
     requires { ⌜ checkOrder (now permanent) ≡ Sound ⌝ }
     ensures { λ r. ⌜ Fronted (now (permanent .entry)) r ⌝ }
 {
@@ -56,54 +55,6 @@ fn front_end(permanent: &[u8]) -> usize
         i += 1;
     }
     count
-}
-
-// The greater of two times.
-fn greater(a: u32, b: u32) -> u32
-    ensures { λ r. ⌜ r ≡ max a b ⌝ }
-{
-    if a < b { b } else { a }
-}
-
-// The last instant at which a record from a place on opens the life, or 0.
-fn last_opening(permanent: &[u8], front: usize) -> u32
-    requires { ⌜ front ≤ countOf (now permanent) ⌝ }
-    ensures { λ r. ⌜ LastOpening (now (permanent .entry)) front (countOf (now (permanent .entry))) r ⌝ }
-{
-    let size = record_size(permanent);
-    let count = count_of(permanent) as usize;
-    let mut last = 0;
-    let mut i = front;
-    while i < count {
-        let record = record_at(permanent, size, i);
-        let life = life_of(record);
-        let born = life.begin;
-        if !born.is_none() {
-            let period = period_of(record);
-            let begin = period.begin;
-            last = greater(last, begin.0);
-        }
-        i += 1;
-    }
-    last
-}
-
-// The front of a table: where its BASELINEs end, and the last instant at which a PERMDELTA behind them opens
-// the life.
-pub struct Front {
-    pub end: usize,
-    pub opened: u32,
-}
-
-// The front of a table whose records are in order.
-pub(crate) fn front_of(permanent: &[u8]) -> Front
-    requires { ⌜ checkOrder (now permanent) ≡ Sound ⌝ }
-    ensures end { λ r. ⌜ Fronted (now (permanent .entry)) (r .end) ⌝ }
-    ensures opened { λ r. ⌜ LastOpening (now (permanent .entry)) (r .end) (countOf (now (permanent .entry))) (r .opened) ⌝ }
-{
-    let end = front_end(permanent);
-    let opened = last_opening(permanent, end);
-    Front { end, opened }
 }
 
 // The lesser of two numbers.
@@ -148,28 +99,4 @@ pub(crate) fn change_since(
     let first = soonest_of(begins, count, from.0, 4294967295 - from.0);
     let second = soonest_of(ends, front, from.0, first);
     Instant(from.0 + soonest_of(gones, front, from.0, second))
-}
-
-// How many periods an instant lies in, and where one alone stands.
-pub struct Holders {
-    pub count: usize,
-    pub place: usize,
-}
-
-// The periods of the first places that an instant lies in. Places are added up, which names the place where
-// it is one alone.
-pub(crate) fn hold(begins: &[u32], ends: &[u32], front: usize, instant: u32) -> Holders
-    requires { ⌜ (front ≤ length (now begins)) × ((front ≤ length (now ends)) × (front ≤ 256)) ⌝ }
-    ensures { λ r. ⌜ HeldBy (lies (now (begins .entry)) (now (ends .entry)) instant) front (r .count) (r .place) ⌝ }
-{
-    let mut count = 0;
-    let mut place = 0;
-    let mut i = 0;
-    while i < front {
-        let held = (begins[i] <= instant) & (instant < ends[i]);
-        count += if held { 1 } else { 0 };
-        place += if held { i } else { 0 };
-        i += 1;
-    }
-    Holders { count, place }
 }

@@ -3,7 +3,7 @@ use Prim.Native.Nat.{ℕ}
 use mathlib.Core.Path.{_≡_, refl}
 use mathlib.Core.List.{List}
 use mathlib.Core.Bool.{Bool, true, false, cond}
-use Rattle.laws.specs.Refusals.{Test, refuse}
+use Rattle.laws.specs.Refusals.{refuse}
 use Rattle.numbers.specs.declared.Instant.{Instant}
 use Rattle.slice.specs.Record.{Slice}
 use Rattle.history.specs.Anchor.{Anchor, based, opened, nowhere, two, anchor}

@@ -1,4 +1,5 @@
--- The fourteen examples of document 01, computed from bytes: one table, one claim. Property 0 holds a code, the rest are nil.
+-- The fourteen examples of document 01, 11 as document 02 (Q-2) has it, computed from bytes: one table, one claim. Property 0 holds a
+-- code, the rest are nil.
 -- Assumes nothing.
 use Prim.Native.Nat.{ℕ, _+_, _*_}
 use mathlib.Core.Path.{_≡_, refl}
@@ -143,7 +144,7 @@ wanted =
     ∷ (answers Repeat ∷ [])  -- 9
     ∷ (answers (refusedArrival 17) ∷ [])  -- 9, again
     ∷ (gives 8 ∷ [])  -- 10
-    ∷ (gives 1 ∷ refuses 21 ∷ [])  -- 11
+    ∷ (gives 1 ∷ gives 2 ∷ [])  -- 11
     ∷ (gives 1 ∷ refuses 22 ∷ [])  -- 12
     ∷ (gives 3 ∷ stands Unmentioned ∷ shows unknown ∷ [])  -- 13
     ∷ (shows unknown ∷ [])  -- 14

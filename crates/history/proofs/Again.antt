@@ -24,7 +24,8 @@ use Rattle.history.proofs.Selection.{kept-rising, append-in}
 use Rattle.history.proofs.Changes.{Risen, Changing, Bounded, changes-rising, changes-from, changes-given, changes-below}
 use Rattle.history.proofs.Changes.{changing-given, begin-changing, end-changing}
 use Rattle.history.proofs.Steady.{Timely, known-life}
-use Rattle.history.proofs.ReadBack.{Stretched, stretched, numbered-in, read-back}
+use Rattle.history.proofs.Stretches.{Stretched, stretched, numbered-in}
+use Rattle.history.proofs.ReadBack.{read-back}
 
 -- ---- instants that are among others
 module _ (k : List Instant) where

@@ -106,6 +106,11 @@ unfolding before
 next-least (t ∷ ts) up x (inl e) = omega (tests, ap (λ i. i .0) e)
 next-least (t ∷ ts) (low, up) x (inr m) = omega (tests, low x m)
 
+-- where the first of given instants is none there are none
+pub next-none : (l : List Instant) → ((x : Instant) → In x l → given x ≡ true) → isNone (nextOf l) ≡ true → l ≡ []
+next-none [] g e = refl
+next-none (t ∷ ts) g e = contrary e (not-true (isNone t) (g t (inl refl)))
+
 abbrev pub justAfter : Instant → Instant
 justAfter t = record { 0 = t .0 + 1 }
 
@@ -165,11 +170,7 @@ module _ (slices : List Slice) where
 
     -- where the first is none there are none
     pub walk-end : isNone (nextOf later) ≡ true → later ≡ []
-    walk-end e = go later (λ x m. changes-given slices x (kept-in (atMost v) (changeInstants slices) x .0 m .0)) e
-      where
-        go : (l : List Instant) → ((x : Instant) → In x l → given x ≡ true) → isNone (nextOf l) ≡ true → l ≡ []
-        go [] g e = refl
-        go (t ∷ ts) g e = contrary e (not-true (isNone t) (g t (inl refl)))
+    walk-end = next-none later (λ x m. changes-given slices x (kept-in (atMost v) (changeInstants slices) x .0 m .0))
 
   -- and where it is given the others are those after it
   pub walk-next : (v : Instant) → isNone (nextOf (later v)) ≡ false

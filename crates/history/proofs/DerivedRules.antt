@@ -21,17 +21,17 @@ use Rattle.history.specs.Counted.{counts, holds}
 use Rattle.history.specs.Period.{until}
 use Rattle.history.specs.Anchor.{stands, opens, Anchor, based, opened, nowhere, two, only, anchor}
 use Rattle.history.specs.State.{State}
-use Rattle.history.specs.Permanent.{after, follows, following, Standing, refuses, known, withdrawn, permanentAt}
+use Rattle.history.specs.Permanent.{after, follows, following, known, withdrawn, permanentAt}
 use Rattle.history.specs.Source.{lastOf, lineFrom, line}
 use Rattle.history.specs.Parts.{tells}
-use Rattle.history.specs.Changes.{changeInstants, nextOf}
-use Rattle.history.specs.Derived.{Stretch, stretch, stretchesFrom, stretches, filledIn, baselineOf}
+use Rattle.history.specs.Changes.{changeInstants}
+use Rattle.history.specs.Derived.{Stretch, stretches, filledIn, baselineOf}
 use Rattle.history.proofs.Parts.{last-in, beginIn, line-begin, following-in}
 use Rattle.history.proofs.Line.{Within, only-within, known-line}
-use Rattle.history.proofs.Selection.{append-in}
-use Rattle.history.proofs.Changes.{Risen, changes-rising, changes-given, next-in, next-least}
+use Rattle.history.proofs.Changes.{changes-rising, changes-given}
 use Rattle.history.proofs.Steady.{Timely, known-life}
-use Rattle.history.proofs.ReadBack.{stretched, known-stays}
+use Rattle.history.proofs.Stretches.{stretched, stretch-next}
+use Rattle.history.proofs.ReadBack.{known-stays}
 
 -- a BASELINE or a PERMDELTA that counts
 abbrev pub Counting : Slice → Type 0
@@ -103,32 +103,6 @@ module _ (slices : List Slice) (t : Instant) (s : State) (h : permanentAt t slic
       by-test (isNone (s .life .end)) (λ y. inl (none-true (s .life .end) y))
       (λ n. let o : atMost (s .life .end) t ≡ false = rw n at (known-stays t slices s h) in inr (omega tests))
 
--- ---- a stretch
--- its end is none or after its begin, and no instant lies between
-record Next (us : List Instant) (s : Stretch) : Type 0 where
-  ahead : (s .period .end .0 ≡ noInstant) ⊎ (s .period .begin .0 < s .period .end .0)
-  least : (x : Instant) → In x us → s .period .begin .0 < x .0 → s .period .end .0 ≤ x .0
-
-stretch-next : (slices : List Slice) (us : List Instant) → Risen us → (s : Stretch) → In s (stretchesFrom slices us) → Next us s
-unfolding before
-stretch-next slices (t ∷ ts) (low, up) s m =
-    ⊎-elim (here (permanentAt t slices)) (λ n. let h = stretch-next slices ts up s n in
-    record {
-      ahead = h .ahead;
-      least =
-          λ x. ⊎-elim (λ e l. absurd (omega (tests, low (s .period .begin) (stretched slices ts s n .begins), ap (λ i. i .0) e)))
-          (h .least x);
-    })
-    (append-in (stretch t (nextOf ts) (permanentAt t slices)) (stretchesFrom slices ts) s .0 m)
-  where
-    here : (v : Standing) → In s (stretch t (nextOf ts) v) → Next (t ∷ ts) s
-    here (refuses n) m = absurd m
-    here (known k) (inl q) = rw q (record {
-      ahead = ⊎-elim (λ e. inl (ap (λ i. i .0) e)) (λ i. inr (omega (tests, low (nextOf ts) i))) (next-in ts);
-      least = λ x. ⊎-elim (λ e l. absurd (omega (tests, ap (λ i. i .0) e))) (λ i _. next-least ts up x i);
-    })
-    here (known k) (inr m) = absurd m
-
 -- ---- right times, from the facts about numbers
 none-or : (x : Instant) (b : Bool) → (x .0 ≡ noInstant) ⊎ (b ≡ true) → (isNone x || b) ≡ true
 unfolding isNone
@@ -152,7 +126,7 @@ module _ (unknown : List ℕ) (slices : List Slice) (n : ℕ) (s : Stretch) wher
   unfolding timesRight baselineOf stretches
   drawn-times ok born m =
       let h = stretched slices (changeInstants slices) s m in
-      let next = stretch-next slices (changeInstants slices) (changes-rising slices) s m in
+      let next = stretch-next slices (changeInstants slices) (changes-rising slices) (changes-given slices) s m in
       let stays = state-stays slices (s .period .begin) (s .state) (h .has) in
       let change = known-life slices ok (s .period .begin) (s .state) (h .has) in
       times-baseline (s .period) (s .state .life) (changes-given slices (s .period .begin) (h .begins)) (record {

@@ -15,12 +15,12 @@ pub mod Parts
 pub mod Line
 -- the permanent state does not change between change instants, and there is none before the first
 pub mod Steady
--- the state at one change instant from the state at the one before
-pub mod Onward
 -- a derived BASELINE has right times (15) and content (16)
 pub mod DerivedRules
 -- the change instants rise, are given, and contain every time at which the state may change
 pub mod Changes
+-- the stretches from one change instant to the next, and the BASELINEs made of them
+pub mod Stretches
 -- what the other laws need of how long a BASELINE holds and how far it reaches
 pub mod Periods
 -- the order by instant and then sequence number is strict and total

@@ -9,7 +9,7 @@ use Rattle.laws.specs.Lists.{kept}
 use Rattle.laws.specs.Keyed.{In}
 use Rattle.laws.proofs.Tests.{tests, pick-ind, by-test}
 use Rattle.laws.proofs.Lists.{any-none}
-use Rattle.numbers.specs.Numbers.{noInstant, none, before, atMost}
+use Rattle.numbers.specs.Numbers.{noInstant, before, atMost}
 use Rattle.numbers.specs.declared.Instant.{Instant}
 use Rattle.slice.specs.Record.{baseline, permdelta, Slice}
 use Rattle.history.specs.Counted.{counts, holds}
@@ -21,29 +21,11 @@ use Rattle.history.specs.Changes.{changeInstants, nextOf}
 use Rattle.history.specs.Derived.{hasTwo, twoAnchors, Stretch, stretch, stretchesFrom, stretches, baselineOf, numberedFrom}
 use Rattle.history.specs.Derived.{derivedBaselines, asWritten, readBack}
 use Rattle.history.proofs.Line.{known-apart, known-same}
-use Rattle.history.proofs.Selection.{kept-same, kept-none, kept-append, append-in}
-use Rattle.history.proofs.Changes.{Risen, changes-rising, next-in, next-least}
+use Rattle.history.proofs.Selection.{kept-same, kept-none, kept-append}
+use Rattle.history.proofs.Changes.{Risen, changes-rising, next-least}
+use Rattle.history.proofs.Stretches.{stretched, numbered-in}
 use Rattle.history.proofs.Periods.{until-derived}
 use Rattle.history.proofs.Steady.{Timely, Alike, permanent-same, permanent-none}
-
--- ---- the stretches
-module _ (slices : List Slice) where
-  -- each begins at one of the instants, ends at one or never, and has the state at its begin
-  pub record Stretched (us : List Instant) (s : Stretch) : Type 0 where
-    pub begins : In (s .period .begin) us
-    pub ends : (s .period .end ≡ none) ⊎ In (s .period .end) us
-    pub has : permanentAt (s .period .begin) slices ≡ known (s .state)
-
-  pub stretched : (us : List Instant) (s : Stretch) → In s (stretchesFrom slices us) → Stretched us s
-  stretched (t ∷ ts) s m =
-      ⊎-elim (λ n. here (permanentAt t slices) refl n) (λ n. let h = stretched ts s n in
-      record { begins = inr (h .begins); ends = ⊎-elim inl (λ i. inr (inr i)) (h .ends); has = h .has })
-      (append-in (stretch t (nextOf ts) (permanentAt t slices)) (stretchesFrom slices ts) s .0 m)
-    where
-      here : (v : Standing) → permanentAt t slices ≡ v → In s (stretch t (nextOf ts) v) → Stretched (t ∷ ts) s
-      here (refuses n) e m = absurd m
-      here (known k) e (inl q) = rw q (record { begins = inl refl; ends = ⊎-elim inl (λ i. inr (inr i)) (next-in ts); has = e })
-      here (known k) e (inr m) = absurd m
 
 -- ---- which of them t lies in
 abbrev current : Instant → Stretch → Bool
@@ -136,11 +118,6 @@ lone t (s ∷ []) = unlessWithdrawn t s
 lone t (s ∷ s' ∷ ss) = refuses 21
 
 module _ (unknown : List ℕ) where
-  pub numbered-in : (n : ℕ) (l : List Stretch) (b : Slice) → In b (numberedFrom unknown n l)
-      → (k : ℕ) × (s : Stretch) × In s l × (b ≡ baselineOf unknown k s)
-  numbered-in n (s ∷ l) b (inl e) = (n, s, inl refl, e)
-  numbered-in n (s ∷ l) b (inr m) = let (k, x, i, e) = numbered-in (suc n) l b m in (k, x, inr i, e)
-
   -- those that hold at t give the states of the stretches that t lies in, as they are written
   numbered-kept : (t : Instant) (n : ℕ) (l : List Stretch)
       → map started (kept (holding t) (numberedFrom unknown n l))
@@ -157,7 +134,7 @@ module _ (unknown : List ℕ) where
 
     no-delta : (b : Slice) → In b derived → counts permdelta b ≡ false
     unfolding counts derivedBaselines baselineOf
-    no-delta b m = let (k, s, i, e) = numbered-in 1 (stretches slices) b m in rw e
+    no-delta b m = let (k, s, i, e) = numbered-in unknown 1 (stretches slices) b m in rw e
 
     derived-opens : kept (opens t) derived ≡ []
     unfolding opens

@@ -4,9 +4,12 @@ use mathlib.Core.Path.{_≡_, refl}
 use mathlib.Core.Bool.{false, true}
 use mathlib.Core.List.{List, [], _∷_, _++_, map}
 use Rattle.numbers.specs.Numbers.{none}
+use Rattle.numbers.specs.declared.Instant.{Instant}
 use Rattle.slice.specs.Record.{baseline, permdelta, Property, unmentioned, says, Slice}
+use Rattle.history.specs.Counted.{holds}
 use Rattle.history.specs.Permanent.{Standing, refuses, known}
 use Rattle.history.specs.Snapshot.{snapshotAt, instants}
+use Rattle.history.specs.Reach.{reaches}
 use Rattle.history.specs.Derived.{derivedBaselines, derivations}
 
 abbrev never : ℕ
@@ -41,10 +44,10 @@ changed n t b = slice′ permdelta n t never never never (says b ∷ unmentioned
 abbrev opening : Slice
 opening = slice′ permdelta 1 10 never 10 never (says red ∷ unmentioned ∷ [])
 
--- a change that was cancelled: it says nothing but its key
-abbrev takenBack : ℕ → Slice
-takenBack n = record {
-  kind = permdelta;
+-- a slice of a kind that was cancelled: it says nothing but its key
+abbrev takenBack : ℕ → ℕ → Slice
+takenBack kind n = record {
+  kind = kind;
   cancelled = true;
   correction = record { 0 = 1 };
   sequence = record { 0 = n };
@@ -84,7 +87,7 @@ histories =
     (opening ∷ [])
     ∷ (opening ∷ changed 2 20 blue ∷ [])
     ∷ (opening ∷ changed 2 20 blue ∷ changed 3 30 blue ∷ [])
-    ∷ (opening ∷ takenBack 2 ∷ [])
+    ∷ (opening ∷ takenBack permdelta 2 ∷ [])
     ∷ (opening ∷ changed 2 20 blue ∷ closing ∷ [])
     ∷ anchored
     ∷ gap
@@ -121,3 +124,64 @@ standings : map (at gap) (9 ∷ 10 ∷ 20 ∷ 29 ∷ 30 ∷ []) ++ map (at ended
     ≡ refuses 20 ∷ state never ∷ refuses 20 ∷ refuses 20 ∷ state never ∷ state 30 ∷ refuses 22 ∷ refuses 22 ∷ []
 unfolding instants
 standings = refl
+
+-- ---- open ends
+-- a BASELINE by its sequence number, its period and its first property, commissioned at its begin
+abbrev lasting : ℕ → ℕ → ℕ → List ℕ → Slice
+lasting n begin end b = slice′ baseline n begin end begin never (says b ∷ says red ∷ [])
+
+-- the state that it gives
+abbrev since : ℕ → List ℕ → Standing
+since begin b =
+    known (record { life = record { begin = record { 0 = begin }; end = none }; properties = says b ∷ says red ∷ [] })
+
+-- three without an end; one from 150 to 160 within one without an end
+abbrev three : List Slice
+three = lasting 1 10 never red ∷ lasting 2 20 never blue ∷ lasting 3 30 never red ∷ []
+
+abbrev short : List Slice
+short = lasting 1 100 never red ∷ lasting 2 150 160 blue ∷ []
+
+-- two of one begin, without an end or with one, and one that begins later
+abbrev twins : ℕ → List Slice
+twins end = lasting 1 10 never red ∷ lasting 2 10 end blue ∷ lasting 3 20 never red ∷ []
+
+-- one that was cancelled begins nowhere
+abbrev spared : List Slice
+spared = lasting 1 10 never red ∷ takenBack baseline 2 ∷ []
+
+-- an open BASELINE closes where the next one begins, for good: at 160 there is no state. Two of one begin clash until a third
+-- begins, which closes what is open; a fixed end stays, and clashes with the third up to it
+closings : map (at three) (9 ∷ 19 ∷ 20 ∷ 29 ∷ 30 ∷ []) ++ map (at short) (149 ∷ 150 ∷ 159 ∷ 160 ∷ [])
+    ++ map (at (twins never)) (10 ∷ 19 ∷ 20 ∷ []) ++ map (at (twins 30)) (10 ∷ 19 ∷ 20 ∷ 29 ∷ 30 ∷ [])
+    ++ map (at spared) (10 ∷ 4294967294 ∷ [])
+    ≡ (refuses 20 ∷ since 10 red ∷ since 20 blue ∷ since 20 blue ∷ since 30 red ∷ [])
+    ++ (since 100 red ∷ since 150 blue ∷ since 150 blue ∷ refuses 20 ∷ [])
+    ++ (refuses 21 ∷ refuses 21 ∷ since 20 red ∷ [])
+    ++ (refuses 21 ∷ refuses 21 ∷ refuses 21 ∷ refuses 21 ∷ since 20 red ∷ [])
+    ++ (since 10 red ∷ since 10 red ∷ [])
+unfolding instants
+closings = refl
+
+-- what is derived of an open BASELINE and a short one: nothing from 160 on
+closed : derivedBaselines unknown short ≡ lasting 1 100 150 red ∷ lasting 2 150 160 blue ∷ []
+unfolding derivations
+closed = refl
+
+-- a BASELINE reaches beyond its period: one from 5 to 7 shuts one that is open from 0, and at 8 there is no state any more
+abbrev early : Slice
+early = lasting 1 0 never red
+
+abbrev late : Slice
+late = lasting 2 5 7 blue
+
+beyond : at (early ∷ []) 8 ∷ at (early ∷ late ∷ []) 8 ∷ [] ≡ since 0 red ∷ refuses 20 ∷ []
+unfolding instants
+beyond = refl
+
+abbrev eight : Instant
+eight = record { 0 = 8 }
+
+reach : holds eight (late .period .begin) (late .period .end) ∷ reaches eight late ∷ [] ≡ false ∷ true ∷ []
+unfolding instants reaches
+reach = refl

@@ -10,5 +10,4 @@ pub mod Touched
 pub mod Parts
 pub mod Changes
 pub mod Derived
-pub mod Onward
 pub mod Examples

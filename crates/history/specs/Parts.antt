@@ -1,4 +1,4 @@
--- The latest mention of each part of a state, by one pass over the slices as they stand. A part is a property, 0 to 7, the life
+-- The BASELINEs that have begun, and the latest mention of each part of a state, by one pass over the slices as they stand. A part is a property, 0 to 7, the life
 -- begin, 8, or the life end, 9. No public promise cites this file. Assumes nothing.
 use Prim.Native.Nat.{ℕ, suc}
 use mathlib.Core.Bool.{Bool, true, cond, _&&_}
@@ -7,11 +7,16 @@ use mathlib.Core.Option.{Option, none, some}
 use lib.Dec.{ltb, eqb}
 use Rattle.numbers.specs.Numbers.{given, atMost}
 use Rattle.numbers.specs.declared.Instant.{Instant}
-use Rattle.slice.specs.Record.{permdelta, Slice}
+use Rattle.slice.specs.Record.{baseline, permdelta, Slice}
 use Rattle.history.specs.Counted.{counts}
+use Rattle.history.specs.Period.{beginOf}
 use Rattle.history.specs.Permanent.{turnOf, turnLess}
 use Rattle.history.specs.Snapshot.{valid}
 use Rattle.history.specs.Source.{mentions}
+
+-- a counted BASELINE that has begun by t
+unfoldable pub begun : Instant → Slice → Bool
+begun t b = counts baseline b && atMost (beginOf b) t
 
 -- a slice tells part q
 unfoldable pub tells : ℕ → Slice → Bool

@@ -6,7 +6,7 @@ use Rattle.slice.specs.Record.{baseline, permdelta, tempdelta, Slice}
 use Rattle.history.specs.Counted.{counts, holds}
 use Rattle.history.specs.Period.{baselineReach}
 
--- t lies in the reach of a slice: a BASELINE's period, from a PERMDELTA's instant on, a TEMPDELTA's period; a
+-- t lies in the reach of a slice: from a BASELINE's begin on, from a PERMDELTA's instant on, a TEMPDELTA's period; a
 -- cancelled one has none
 unfoldable pub reaches : Instant → Slice → Bool
 reaches t s =

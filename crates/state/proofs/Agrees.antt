@@ -37,8 +37,6 @@ use Rattle.state.specs.Asking.{permanentStateOf, snapshotOf, buffered, a
 use Rattle.state.specs.Asking.{placeAt, placeOf, Tells}
 use Rattle.state.specs.declared.answer.Outcome.{Outcome}
 use Rattle.state.specs.declared.answer.Outcome.the-variants as outcome
-use Rattle.state.specs.declared.question.Place.{Place}
-use Rattle.state.specs.declared.question.Place.the-variants as place
 use Rattle.state.proofs.Slices.{sound-rising, slice-eight, slice-sized}
 use Rattle.state.proofs.RecordProperties.{Fits, written-property}
 use Rattle.state.proofs.PropertyPlace.{place-bytes, tests-sound}

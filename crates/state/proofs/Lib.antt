@@ -23,10 +23,12 @@ pub mod OnePass
 pub mod SurveyResult
 -- what the search for the anchor finds, from the counts of candidates
 pub mod Anchors
+-- the BASELINEs that one pass finds to hold are those that stand
+pub mod Bases
 -- the pass keeps, for each part, the mark of its latest mention
 pub mod Marks
 -- the BASELINEs of a permanent table stand in front
-pub mod Front
+pub mod BaselinesFirst
 -- the questions, one test after the other
 pub mod Stages
 -- the slices of a table are the views of its records, place by place

@@ -26,7 +26,6 @@ use Rattle.history.proofs.Line.{line-in}
 use Rattle.state.specs.Written.{propertyBytes}
 use Rattle.state.specs.Asking.{slicesOf, permanentTests, bothTests, askingTests, refusedPlace, placed, placeAt, placeOf}
 use Rattle.state.specs.Asking.{sourceOf, bytesAt}
-use Rattle.state.specs.declared.question.Place.{Place}
 use Rattle.state.specs.declared.question.Source.{Source}
 use Rattle.state.specs.declared.question.Source.the-variants as source
 use Rattle.state.proofs.Slices.{sound-rising}

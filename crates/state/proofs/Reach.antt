@@ -4,7 +4,7 @@
 use Prim.Native.Nat.{ℕ}
 use mathlib.Core.Path.{_≡_, refl, sym, ap, _∙_}
 use mathlib.Core.List.{List, [], _∷_, _++_, map}
-use mathlib.Core.Bool.{true, false, cond, not}
+use mathlib.Core.Bool.{false, cond, not}
 use mathlib.Core.Logic.{_⊎_, inl, inr, ⊎-elim}
 use mathlib.Core.Option.{Option, none, some, Option·none-ne-some, Option·some-injective, map-eq-some-iff}
 use Rattle.laws.specs.Lists.{any, kept}

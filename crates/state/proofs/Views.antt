@@ -11,11 +11,9 @@ use Rattle.laws.proofs.Tests.{tests}
 use Rattle.octets.specs.Bytes.{byteOf}
 use Rattle.property.specs.Eight.{mentioned}
 use Rattle.numbers.specs.Numbers.{given}
-use Rattle.slice.specs.Record.{baseline, tempdelta, recordSize, lifeOf, Slice, viewOf}
+use Rattle.slice.specs.Record.{tempdelta, recordSize, lifeOf, Slice, viewOf}
 use Rattle.slice.proofs.View.{property-mentioned}
 use Rattle.numbers.specs.declared.Instant.{Instant}
-use Rattle.history.specs.Period.{until}
-use Rattle.history.specs.Anchor.{stands}
 use Rattle.history.specs.Snapshot.{valid}
 use Rattle.state.specs.Steps.{holding}
 use Rattle.history.specs.Source.{mentions}
@@ -58,11 +56,7 @@ module _ (stride : ℕ) (r : List ℕ) where
   unfolding tells viewOf
   tells-end = refl
 
--- whether a BASELINE holds, or a TEMPDELTA is valid, is seen from its own record
-pub base-holding : (slices : List Slice) (t : Instant) (b : Slice) → holding baseline t b ≡ stands slices t b
-unfolding holding stands until
-base-holding slices t b = refl
-
+-- whether a TEMPDELTA is valid is seen from its own record
 pub valid-holding : (t : Instant) (d : Slice) → holding tempdelta t d ≡ valid t d
 unfolding holding valid
 valid-holding t d = refl

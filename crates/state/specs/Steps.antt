@@ -9,14 +9,16 @@ use lib.Dec.{ltb, leb, eqb}
 use Rattle.laws.specs.Keyed.{Rising}
 use Rattle.laws.specs.Refusals.{refuse}
 use Rattle.numbers.specs.Numbers as numbers
-use Rattle.numbers.specs.Numbers.{given, before, atMost}
+use Rattle.numbers.specs.Numbers.{isNone, given, before, atMost, sameInstant}
 use Rattle.numbers.specs.declared.Instant.{Instant}
 use Rattle.slice.specs.declared.record.Life.{Life}
+use Rattle.slice.specs.declared.record.Period.{Period}
 use Rattle.slice.specs.Record.{recordSize, periodOf, lifeOf, sequenceOf, keyLess, sameKey, Slice, viewOf}
 use Rattle.table.specs.Header.{countOf, strideOf, recordAt}
 use Rattle.table.specs.Steps.{Whole}
 use Rattle.history.specs.Counted.{counts, holds, sliceKey}
-use Rattle.history.specs.Parts.{tells, Placed, passFrom}
+use Rattle.history.specs.Period.{beginOf}
+use Rattle.history.specs.Parts.{begun, tells, Placed, passFrom}
 use Rattle.history.specs.Permanent as State
 use Rattle.history.specs.Permanent.{Turn, turnLess}
 use Rattle.state.specs.Written.{nilUnknown}
@@ -28,6 +30,7 @@ use Rattle.state.specs.declared.question.Place.the-variants as place
 use Rattle.state.specs.declared.anchor.Few.{Few}
 use Rattle.state.specs.declared.anchor.Few.the-variants.{Zero, One, More}
 use Rattle.state.specs.declared.anchor.Start.{Start}
+use Rattle.state.specs.declared.front.Bases.{Bases}
 use Rattle.state.specs.declared.anchor.Standing.{Standing}
 use Rattle.state.specs.declared.anchor.Standing.the-variants.{From, Refused}
 
@@ -96,6 +99,42 @@ tallyWith test few i d = cond (test d) (oneMore i few) few
 
 abbrev pub tallyFrom : (Slice → Bool) → ℕ → Few → List Slice → Few
 tallyFrom test i few = passFrom (tallyWith test) few i
+
+-- of the BASELINEs that have begun: those that hold by an end of their own, the last begin, and those without an end that begin
+-- there; none yet
+abbrev pub noBase : Bases
+noBase = record { fixed = Zero; last = record { 0 = 0 }; endless = Zero }
+
+-- a begin closes those without an end that began before it
+unfoldable pub closedBy : Instant → Bases → Bases
+closedBy begin b = record {
+  fixed = b .fixed;
+  last = cond (before (b .last) begin) begin (b .last);
+  endless = cond (before (b .last) begin) Zero (b .endless);
+}
+
+-- one more that has begun by t, at place i
+unfoldable pub heldWith : Instant → ℕ → Period → Bases → Bases
+heldWith t i p b = record {
+  fixed = cond (before t (p .end) && given (p .end)) (oneMore i (b .fixed)) (b .fixed);
+  last = b .last;
+  endless = cond (before t (p .end) && (isNone (p .end) && sameInstant (p .begin) (b .last))) (oneMore i (b .endless)) (b .endless);
+}
+
+abbrev pub baseWith : Instant → Bases → ℕ → Slice → Bases
+baseWith t b i s = cond (begun t s) (heldWith t i (s .period) (closedBy (beginOf s) b)) b
+
+-- from place i on
+abbrev pub basesFrom : Instant → ℕ → Bases → List Slice → Bases
+basesFrom t i b = passFrom (baseWith t) b i
+
+-- two tallies as one
+abbrev pub joinFew : Few → Few → Few
+joinFew Zero b = b
+joinFew (One i) Zero = One i
+joinFew (One i) (One j) = More
+joinFew (One i) More = More
+joinFew More b = More
 
 -- since when a change can come after the anchor: from the begin of the only BASELINE that holds
 abbrev pub sinceOf : List ℕ → Few → Instant

@@ -3,6 +3,7 @@
 // anything of its caller.
 mod anchor;
 mod answer;
+mod front;
 mod looking;
 mod mention;
 mod overlay;

@@ -3,8 +3,7 @@ ghost use mathlib.Core.Path.{_≡_};
 ghost use mathlib.Core.Bool.{true};
 ghost use Prim.Native.Nat.{ℕ, _+_, _≤_, _<_};
 ghost use lib.ListN.{length, getD};
-ghost use Rattle.slice.specs.Record.{baseline, Slice, viewOf};
-ghost use Rattle.table.specs.Header.{countOf};
+ghost use Rattle.slice.specs.Record.{viewOf};
 ghost use Rattle.history.specs.Counted.{counts};
 ghost use Rattle.history.specs.Anchor.{stands};
 ghost use Rattle.history.specs.Parts.{due, opensDue, latestDue};
@@ -13,6 +12,8 @@ ghost use Rattle.state.specs.declared.anchor.Few.the-variants.{Zero};
 ghost use Rattle.state.specs.Steps.{Walkable, nothing, wanted, markOf, markDue, tallyFrom, holding, sinceOf};
 use crate::anchor::Few;
 use crate::anchor::tallied;
+use crate::front::front_of;
+use crate::front::together;
 use crate::mention::Latest;
 use crate::mention::Mark;
 use crate::mention::gives;
@@ -21,7 +22,6 @@ use crate::mention::mentions;
 use crate::mention::no_mention;
 use numbers::Instant;
 use octets::byte;
-use slice::BASELINE;
 use slice::PERMDELTA;
 use slice::is_cancelled;
 use slice::key_of;
@@ -39,14 +39,8 @@ pub struct Survey {
     pub latest: Latest,
 }
 
-// The front of a permanent table: the BASELINEs that hold at an instant, and where it ends.
-pub struct Front {
-    pub bases: Few,
-    pub end: usize,
-}
-
 // Whether a record is one of a kind that is not cancelled.
-fn is_counted(record: &[u8], kind: u8) -> bool
+pub(crate) fn is_counted(record: &[u8], kind: u8) -> bool
     ensures { λ r. ⌜ ((stride : ℕ) → r ≡ counts kind (viewOf stride (now («record» .entry)))) ⌝ }
 {
     if byte(record, 0) != kind {
@@ -96,31 +90,6 @@ fn mark_of(record: &[u8], place: usize) -> Mark
     }
 }
 
-// The front of a permanent table, its BASELINEs: those that hold at an instant, and where it ends.
-fn front_of(permanent: &[u8], instant: Instant) -> Front
-    requires { ⌜ Walkable (now permanent) ⌝ }
-    ensures bases { λ r. ⌜ r .bases
-        ≡ tallyFrom (stands (slicesOf (now (permanent .entry))) instant) 0 Zero (slicesOf (now (permanent .entry))) ⌝ }
-    ensures end { λ r. ⌜ (r .end ≤ countOf (now (permanent .entry)))
-        × ((j : ℕ) (d : Slice) → j < r .end → getD (slicesOf (now (permanent .entry))) j d .kind ≤ baseline) ⌝ }
-{
-    let size = record_size(permanent);
-    let count = count_of(permanent) as usize;
-    let mut bases = Few::Zero;
-    let mut i = 0;
-    while i < count {
-        let record = record_at(permanent, size, i);
-        if BASELINE < byte(record, 0) {
-            return Front { bases, end: i };
-        }
-        if is_holding(record, BASELINE, instant) {
-            bases = tallied(bases, i);
-        }
-        i += 1;
-    }
-    Front { bases, end: i }
-}
-
 // Since when a change can matter: the begin of the only BASELINE that holds; else from the first instant on.
 fn since_of(permanent: &[u8], bases: Few) -> Instant
     ensures { λ r. ⌜ r ≡ sinceOf (now (permanent .entry)) bases ⌝ }
@@ -152,7 +121,7 @@ pub(crate) fn survey_permanent(permanent: &[u8], instant: Instant, from: usize, 
     let size = record_size(permanent);
     let count = count_of(permanent) as usize;
     let front = front_of(permanent, instant);
-    let bases = front.bases;
+    let bases = together(front.bases);
     let since = since_of(permanent, bases);
     let mut openings = Few::Zero;
     let mut latest = no_mention();

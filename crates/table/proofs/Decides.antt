@@ -2,16 +2,14 @@
 use Prim.Native.Nat.{ℕ}
 use mathlib.Core.Path.{_≡_, refl, sym, ap, _∙_}
 use mathlib.Core.List.{List}
-use mathlib.Core.Bool.{true}
 use mathlib.Core.Option.{Option, none, some}
-use lib.ListN.{length}
 use Rattle.laws.specs.Keyed.{In}
 use Rattle.laws.proofs.Tests.{tests, never}
 use Rattle.laws.proofs.Places.{none-stored}
 use Rattle.laws.proofs.Put.{rising-one, stored-in, stored-none-in}
 use Rattle.octets.proofs.Runs.{same-bytes, bytes-same}
 use Rattle.numbers.specs.Numbers.{lowerCorrection}
-use Rattle.slice.specs.Record.{recordSize, correctionOf, keyOf, keyLess, sameKey}
+use Rattle.slice.specs.Record.{recordSize, keyOf, keyLess, sameKey}
 use Rattle.slice.specs.Check.{checkSlice}
 use Rattle.slice.specs.declared.check.Checked.the-variants.{Sound}
 use Rattle.slice.proofs.Keys.{key-order}

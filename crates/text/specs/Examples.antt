@@ -40,10 +40,10 @@ pub paper : listingOf
 unfolding listings
 paper = refl
 
--- `refused N`, with one digit and with two: no bytes at all (1), zeros as long as a table may be (2), two BASELINEs at 200 (21)
+-- `refused N`, with one digit and with two: no bytes at all (1), zeros as long as a table may be (2), two BASELINEs of one begin (21)
 refusals : map saidOf
     ([] ∷ replicate 57376 0
-    ∷ table (entry baseline 1 100 none 100 none nil nil ∷ entry baseline 2 200 none 100 none nil nil ∷ []) ∷ [])
+    ∷ table (entry baseline 1 100 none 100 none nil nil ∷ entry baseline 2 100 none 100 none nil nil ∷ []) ∷ [])
     ≡ (114 ∷ 101 ∷ 102 ∷ 117 ∷ 115 ∷ 101 ∷ 100 ∷ 32 ∷ 49 ∷ 10 ∷ [])
     ∷ (114 ∷ 101 ∷ 102 ∷ 117 ∷ 115 ∷ 101 ∷ 100 ∷ 32 ∷ 50 ∷ 10 ∷ [])
     ∷ (114 ∷ 101 ∷ 102 ∷ 117 ∷ 115 ∷ 101 ∷ 100 ∷ 32 ∷ 50 ∷ 49 ∷ 10 ∷ [])

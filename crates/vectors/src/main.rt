@@ -390,17 +390,17 @@ fn run(
 }
 
 // Room for the input.
-fn room() -> [u8; 2621440]
-    ensures { λ r. ⌜ 2621440 ≡ length r ⌝ }
+fn room() -> [u8; 4194304]
+    ensures { λ r. ⌜ 4194304 ≡ length r ⌝ }
 {
-    [0; 2621440]
+    [0; 4194304]
 }
 
 // Room for the answers.
-fn answer_room() -> [u8; 1900544]
-    ensures { λ r. ⌜ 1900544 ≡ length r ⌝ }
+fn answer_room() -> [u8; 3145728]
+    ensures { λ r. ⌜ 3145728 ≡ length r ⌝ }
 {
-    [0; 1900544]
+    [0; 3145728]
 }
 
 // Obeys the commands of standard input, and writes the answers.

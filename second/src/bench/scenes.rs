@@ -1,7 +1,7 @@
 //! What is measured: each call on tables of this many records, with the expected reply.
 
 use super::derived::{self, Shape};
-use super::questions::{asked, Make};
+use super::questions::{asked, name, Make};
 use super::touches::{self, Hit};
 use super::{Call, Scene, Use, RECORDS, TEXT};
 use crate::fixtures::{cases, table_of, FEATURE, RECORD};
@@ -11,7 +11,8 @@ use crate::listing::list;
 use crate::question::property;
 use crate::random::Random;
 use crate::record::{Kind, Side};
-use crate::supply;
+use crate::supply::{self, Ends};
+use crate::tables::Tables;
 use crate::touched::touched;
 
 /// Where a property may be touched last.
@@ -38,14 +39,10 @@ pub fn all(count: usize) -> Vec<Scene> {
         let names = names.map(|(name, repeats)| (format!("tsl_arrive, {make:?}: {name}"), repeats));
         all.extend(scenes(count, names, |seed| arrivals(make, count, seed)));
     }
-    for make in [Make::Alike, Make::Mixed] {
-        let names = [
-            (format!("tsl_permanent_state, {make:?}"), 16),
-            (format!("tsl_snapshot, {make:?}"), 16),
-            (format!("tsl_property, {make:?}: one"), 16),
-            (format!("tsl_property, {make:?}: all eight"), 4),
-        ];
-        all.extend(scenes(count, names, |seed| questions(make, count, seed)));
+    for ends in [Ends::Fixed, Ends::Open] {
+        for make in [Make::Alike, Make::Mixed] {
+            all.extend(question_scenes(make, ends, count));
+        }
     }
     for make in [Make::Alike, Make::Mixed] {
         let name = |hit: Hit| (format!("tsl_touched, {make:?}: {}", hit.name()), 16);
@@ -57,6 +54,20 @@ pub fn all(count: usize) -> Vec<Scene> {
         all.extend(scenes(count, names, |seed| products(shape, count, seed)));
     }
     all
+}
+
+/// Makes the scenes of the questions about two tables.
+fn question_scenes(make: Make, ends: Ends, count: usize) -> Vec<Scene> {
+    let name = name(make, ends);
+    let names = [
+        (format!("tsl_permanent_state, {name}"), 16),
+        (format!("tsl_snapshot, {name}"), 16),
+        (format!("tsl_property, {name}: one"), 16),
+        (format!("tsl_property, {name}: all eight"), 4),
+    ];
+    scenes(count, names, |seed| {
+        questions(asked(make, ends, count, seed), seed)
+    })
 }
 
 /// Makes scenes of these names and repeats, with the uses that each seed gives in the same order.
@@ -141,8 +152,7 @@ fn arrivals(make: Make, count: usize, seed: u64) -> [Use; 5] {
 }
 
 /// Makes the questions: the permanent state, the snapshot, one property and all eight.
-fn questions(make: Make, count: usize, seed: u64) -> [Use; 4] {
-    let (tables, instant) = asked(make, count, seed);
+fn questions((tables, instant): (Tables, u32), seed: u64) -> [Use; 4] {
     let (permanent, temporary) = (tables.permanent, tables.temporary);
     let number = (seed % 8) as u8;
     let part = property(&permanent, &temporary, instant, number);

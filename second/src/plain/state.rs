@@ -165,19 +165,49 @@ pub fn turn(record: &Record) -> u64 {
     u64::from(number(record, BEGIN)) << 32 | u64::from(number(record, 4))
 }
 
+/// Returns the only BASELINE that holds at an instant, if one does, or 21; in one pass. Without an
+/// end, only those of the latest begin by the instant can hold: that begin has closed all others.
+fn baseline_at(baselines: &[Record], instant: u32) -> Result<Option<&Record>, Refusal> {
+    let (mut fixed, mut open) = (None, None);
+    let (mut fixed_count, mut open_count, mut latest) = (0, 0, 0);
+    for one in baselines {
+        let (begin, end) = (number(one, BEGIN), number(one, END));
+        // A cancelled record has no begin, and "none" is above every instant.
+        if begin > instant {
+            continue;
+        }
+        if end == NONE {
+            if begin >= latest {
+                open_count = if begin > latest { 1 } else { open_count + 1 };
+                latest = begin;
+                open = Some(one);
+            }
+            continue;
+        }
+        if begin > latest {
+            latest = begin;
+            open_count = 0;
+        }
+        if instant < end {
+            fixed_count += 1;
+            fixed = Some(one);
+        }
+    }
+    if fixed_count + open_count > 1 {
+        return Err(Refusal::TwoAnchors);
+    }
+    Ok(if open_count == 1 { open } else { fixed })
+}
+
 impl<'a> Line<'a> {
     /// Returns what is applied at an instant, or 21 or 20.
     fn at([baselines, changes]: [&'a [Record]; 2], instant: u32) -> Result<Line<'a>, Refusal> {
-        let mut anchors = baselines.iter().filter(|one| holds(one, instant));
-        let (anchor, after) = if let Some(baseline) = anchors.next() {
+        let (anchor, after) = if let Some(baseline) = baseline_at(baselines, instant)? {
             (baseline, turn(baseline) | u64::from(u32::MAX))
         } else {
             let opening = Line::opening(changes, instant)?;
             (opening, turn(opening))
         };
-        if anchors.next().is_some() {
-            return Err(Refusal::TwoAnchors);
-        }
         Ok(Line {
             anchor,
             after,

@@ -7,7 +7,7 @@ use crate::fixtures::{self, FEATURE, KIND, RECORD, TIMES};
 use crate::histories::some_tables;
 use crate::layout::{bytes_of, RECORD_BYTES};
 use crate::random::Random;
-use crate::record::{Side, NONE};
+use crate::record::Side;
 use crate::slice;
 use crate::supply;
 use crate::tables::{Product, Question, Tables};
@@ -137,13 +137,6 @@ impl<P: Judge> Round<'_, P> {
             self.some_uses(&tables, instant)?;
         }
         Ok(())
-    }
-
-    /// Returns an instant that matters in two tables, or sometimes any other.
-    fn some_instant(&mut self, tables: &Tables) -> u32 {
-        let mut instants = tables.instants();
-        instants.push(self.random.bits() as u32 % NONE);
-        self.random.pick(&instants)
     }
 
     /// Plays every question about two tables at an instant, of one property, and what is made of

@@ -5,7 +5,7 @@ use super::rules::{self, at, set};
 use super::themes::paper;
 use super::Script;
 use crate::fixtures::brief::{base, baseline, change, closing, opening};
-use crate::fixtures::rows::{apart, touching};
+use crate::fixtures::rows::{apart, touching, unended};
 use crate::layout::{bytes_of, RECORD_BYTES};
 use crate::random::Random;
 use crate::record::{Side, NONE};
@@ -154,9 +154,11 @@ fn many(script: &mut Script) {
     ] {
         ask_into(script, &permanent(&apart(count)), length, 0xc3);
     }
-    let table = permanent(&touching(256));
-    ask_into(script, &table, bytes_of(256) - 1, 0);
-    ask_into(script, &table, bytes_of(256) + 10, 0);
+    for cases in [touching(256), unended(256)] {
+        let table = permanent(&cases);
+        ask_into(script, &table, bytes_of(256) - 1, 0);
+        ask_into(script, &table, bytes_of(256) + 10, 0);
+    }
     let mut ended = row(256);
     ask_into(script, &ended, bytes_of(255), 1);
     ask_into(script, &ended, bytes_of(256), 1);
@@ -165,20 +167,21 @@ fn many(script: &mut Script) {
     ask_into(script, &set(ended, at(255) + 31, &[1]), bytes_of(256), 1);
 }
 
-/// Adds too many records: with a table too short for its count, with two anchors at the end, and as
-/// many as there can be.
+/// Adds too many records: with an end that the next BASELINE gives, with two anchors near the end,
+/// with a table too short for its count, and as many as there can be.
 fn too_many(script: &mut Script) {
     script.title("derived: too many records and another fault");
     let table = permanent(&apart(401));
-    let last_but_one = table.len() - 3 * RECORD_BYTES;
-    let overlap = set(table.clone(), last_but_one + 12, &NONE.to_be_bytes());
+    let end = table.len() - 3 * RECORD_BYTES + 12;
+    let ended = |time: u32| set(table.clone(), end, &time.to_be_bytes());
     let mut over = table.clone();
     over.resize(65_536, 0);
     for table in [
         table.clone(),
-        overlap,
+        ended(NONE),
+        ended(2_001),
         set(over, 6, &[1, 1]),
-        set(table, 31, &[1]),
+        set(table.clone(), 31, &[1]),
         permanent(&apart(511)),
     ] {
         for length in [0, bytes_of(256), 65_536] {
@@ -223,7 +226,9 @@ mod tests {
                 Err(Refusal::Buffer)
             );
         }
-        assert_eq!(derive(&permanent(&touching(256)), &mut output), Ok(256));
+        for cases in [touching(256), unended(256)] {
+            assert_eq!(derive(&permanent(&cases), &mut output), Ok(256));
+        }
         for count in [0, 1, 4, 256] {
             assert_eq!(derive(&row(count), &mut output), Ok(count as usize));
         }
@@ -253,7 +258,7 @@ mod tests {
         let mut script = Script::default();
         too_many(&mut script);
         let answers = script.answers();
-        let expected = ["23", "21", "5", "4", "23"].map(|number| [number; 3]);
+        let expected = ["23", "23", "21", "5", "4", "23"].map(|number| [number; 3]);
         let expected: Vec<&str> = expected.concat();
         assert_eq!(answers.lines().collect::<Vec<_>>(), expected);
     }

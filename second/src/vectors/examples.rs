@@ -92,7 +92,6 @@ fn examples() -> Vec<Example> {
 #[cfg(test)]
 mod tests {
     use super::*;
-    use crate::question::property;
 
     /// What the specification says of property 0 at each instant: a value, 0 for nil, or a refusal.
     #[test]
@@ -103,18 +102,12 @@ mod tests {
             slices
                 .iter()
                 .for_each(|slice| script.bring(&mut tables, slice));
-            let at = |&instant: &u32| {
-                let part = property(&tables.permanent, &tables.temporary, instant, 0);
-                part.map_or_else(
-                    |refusal| format!("!{}", refusal.number()),
-                    |part| part.map_or("-".to_string(), |part| part.bytes[9].to_string()),
-                )
-            };
-            instants.iter().map(at).collect::<Vec<_>>().join(" ")
+            let answers = instants.iter().map(|&instant| tables.value_at(instant));
+            answers.collect::<Vec<_>>().join(" ")
         });
         assert_eq!(
             answers.collect::<Vec<_>>().join(", "),
-            "!20, !20 1 1 !20, 1 2, !20 1 1, 1 1, 5 6 6 1, 1 5 1, !20, !20, 1 8, 1 !21, 1 !22, !20 3, 1 0"
+            "!20, !20 1 1 !20, 1 2, !20 1 1, 1 1, 5 6 6 1, 1 5 1, !20, !20, 1 8, 1 2, 1 !22, !20 3, 1 0"
         );
     }
 }

@@ -2,7 +2,8 @@
 //! once.
 
 use super::Script;
-use crate::fixtures::brief::{base, baseline, change, mention_only, opening, passing, SEQUENCES};
+use crate::fixtures::brief::{base, baseline, change, mention_only, opening, passing};
+use crate::fixtures::brief::{ORDERS, SEQUENCES};
 use crate::fixtures::{self, code, mentions, nil, sound_parts, Case};
 use crate::record::NONE;
 use crate::tables::Tables;
@@ -61,15 +62,7 @@ fn every_form(script: &mut Script) {
 /// Adds three TEMPDELTAs whose periods overlap, under every order of their sequence numbers.
 fn overlapping(script: &mut Script) {
     script.title("mentions: TEMPDELTAs that overlap");
-    let orders = [
-        [1, 2, 3],
-        [1, 3, 2],
-        [2, 1, 3],
-        [2, 3, 1],
-        [3, 1, 2],
-        [3, 2, 1],
-    ];
-    for [one, two, three] in orders {
+    for [one, two, three] in ORDERS {
         let deltas = [
             passing(one, 120, 140, 5).with_part(1, &code(15)),
             passing(two, 130, 160, 6).with_part(2, &code(16)),

@@ -39,6 +39,7 @@ pub fn themes() -> Vec<Theme> {
         theme("paper", "the paper's example", vec![paper()]),
         theme("nothing", "no state at any change instant", nothing()),
         theme("periods", "BASELINEs of every period", periods()),
+        theme("open", "BASELINEs without end", open_ends()),
         theme("changes", "PERMDELTAs about a begin", changes()),
         theme("equal", "equal neighbours", equal()),
         theme("lives", "life ends given by BASELINEs", lives()),
@@ -87,6 +88,29 @@ fn periods() -> Vec<Vec<Case>> {
     histories
 }
 
+/// Makes BASELINEs without end that another closes: one without end too, or one that leaves a gap;
+/// with changes, an opening, a life end and cancelled ones.
+fn open_ends() -> Vec<Vec<Case>> {
+    let (first, short, next) = (base(), from_to(2, 150, 160), from_to(3, 200, NONE));
+    let ended = baseline(1, [100, NONE, 100, 180], 1);
+    let both = [first.clone(), next.clone()];
+    let all = [first.clone(), short.clone(), next.clone()];
+    vec![
+        both.to_vec(),
+        vec![first.clone(), short.clone()],
+        all.to_vec(),
+        [&all[..], &[opening(5, 90, 50)]].concat(),
+        [&all[..], &[change(1, 120, 7), change(2, 155, 8)]].concat(),
+        [&both[..], &[change(1, 199, 7), change(2, 200, 8)]].concat(),
+        [&both[..], &[closing(1, 150)]].concat(),
+        vec![ended.clone(), next.clone()],
+        vec![ended, short.clone(), opening(5, 90, 50)],
+        vec![first, cancelling(&short, 1), next.clone()],
+        vec![from_to(1, 100, 200), next, from_to(2, 250, NONE)],
+        vec![from_to(2, 0, NONE), from_to(1, LAST, NONE)],
+    ]
+}
+
 /// Makes changes before, at and after the begin and the end of a BASELINE, and at the next begin.
 fn changes() -> Vec<Vec<Case>> {
     let mut histories = vec![];
@@ -131,12 +155,9 @@ fn lives() -> Vec<Vec<Case>> {
         for instant in [150, 200, 250, 300, 350] {
             histories.push(vec![anchor.clone(), change(1, instant, 2)]);
         }
-        // A BASELINE without end stays an anchor, whatever its life.
-        if end != NONE {
-            let next = baseline(2, [400, NONE, NONE, 500], 3);
-            histories.push(vec![anchor.clone(), next.clone()]);
-            histories.push(vec![anchor, next, opening(1, 120, 4), change(2, 450, 5)]);
-        }
+        let next = baseline(2, [400, NONE, NONE, 500], 3);
+        histories.push(vec![anchor.clone(), next.clone()]);
+        histories.push(vec![anchor, next, opening(1, 120, 4), change(2, 450, 5)]);
     }
     histories
 }
@@ -273,17 +294,19 @@ fn turns() -> Vec<Vec<Case>> {
 fn anchors() -> Vec<Vec<Case>> {
     let (one, opened) = (from_to(1, 100, 200), opening(5, 100, 1));
     vec![
-        vec![base(), from_to(2, 200, NONE)],
+        vec![base(), from_to(2, 100, NONE)],
+        vec![base(), from_to(2, 100, NONE), from_to(3, 150, NONE)],
+        vec![one.clone(), from_to(2, 150, NONE)],
         vec![one.clone(), from_to(2, 199, 300)],
         vec![one.clone(), from_to(2, 100, 200)],
-        vec![base(), from_to(2, LAST, NONE)],
+        vec![from_to(1, LAST, NONE), from_to(2, LAST, NONE)],
         vec![base(), from_to(2, 0, 101)],
         vec![opened.clone(), opening(6, 100, 2)],
         vec![opened.clone(), opening(4, LAST, 2)],
         vec![opened.clone(), opening(6, 150, 2), one.clone()],
         vec![opened.clone(), opening(6, 150, 2), closing(7, 150)],
         vec![one.clone(), from_to(2, 150, 151), closing(7, 120)],
-        vec![one, from_to(2, 200, NONE), from_to(3, 300, 301), opened],
+        vec![one, from_to(2, 200, 302), from_to(3, 300, 301), opened],
     ]
 }
 

@@ -86,7 +86,7 @@ fn last_seven() -> Vec<Example> {
         says(&[base(), p(4, 150, 8), p(3, 150, 9)], &[(150, Code(8))]),
         says(
             &[base(), b(2, 200, NONE, 2)],
-            &[(199, Code(1)), (200, Refused(Refusal::TwoAnchors))],
+            &[(199, Code(1)), (200, Code(2))],
         ),
         says(
             &[base(), closing(300)],

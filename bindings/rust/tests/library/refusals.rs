@@ -278,7 +278,7 @@ fn slices_that_the_table_does_not_take() {
 /// 8 and 19 to 23 of the questions, in their order.
 #[test]
 fn questions_that_have_no_answer() {
-    let mut tables = Tables::of(&[base(), b(2, 200, NONE, 2)]);
+    let mut tables = Tables::of(&[b(1, 100, 300, 1), b(2, 200, NONE, 2)]);
     assert_eq!(asked(&tables, 199, RECORD_BYTES, 7), [0; 3]);
     assert_eq!(asked(&tables, 99, RECORD_BYTES, 7), [20; 3]);
     assert_eq!(asked(&tables, 200, RECORD_BYTES, 7), [21; 3]);
@@ -290,6 +290,23 @@ fn questions_that_have_no_answer() {
     let closed = Tables::of(&[base(), closing(300)]);
     assert_eq!(asked(&closed, 300, RECORD_BYTES, 0), [22; 3]);
     assert_eq!(asked(&closed, 300, 0, 8), [23, 23, 19]);
+}
+
+/// An open BASELINE closes where the next one begins, for good.
+#[test]
+fn an_open_baseline_that_is_closed() {
+    let tables = Tables::of(&[base(), b(2, 150, 160, 2)]);
+    for (instant, refused) in [
+        (99, 20),
+        (149, 0),
+        (150, 0),
+        (159, 0),
+        (160, 20),
+        (NONE - 1, 20),
+    ] {
+        assert_eq!(asked(&tables, instant, RECORD_BYTES, 0), [refused; 3]);
+    }
+    assert_eq!(derived(&tables.permanent, LARGEST_TABLE), 0);
 }
 
 /// 19 of what touches a property; nothing of the permanent table is asked for, and no state.
@@ -309,7 +326,7 @@ fn a_property_that_there_is_not() {
 /// 21 and 23 of derived baselines.
 #[test]
 fn baselines_that_cannot_be_derived() {
-    let two = Tables::of(&[base(), b(2, 200, NONE, 2)]).permanent;
+    let two = Tables::of(&[base(), b(2, 100, NONE, 2)]).permanent;
     assert_eq!(derived(&two, LARGEST_TABLE), 21);
     assert_eq!(derived(&two, 0), 21);
     assert_eq!(listing_string(&two), "refused 21\n");

@@ -6,4 +6,4 @@ use Rattle.vectors.proofs.answer_room.Statement.{statement}
 use Rattle.vectors.proofs.answer_room.Tie as tie
 
 pub answer-room-spec : {M : Type 1} → statement M
-answer-room-spec = tie.close (tie.spec (λ c. sym (length-replicate {0} {A = ℕ} 1900544 0)))
+answer-room-spec = tie.close (tie.spec (λ c. sym (length-replicate {0} {A = ℕ} 3145728 0)))

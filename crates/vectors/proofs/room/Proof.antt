@@ -6,4 +6,4 @@ use Rattle.vectors.proofs.room.Statement.{statement}
 use Rattle.vectors.proofs.room.Tie as tie
 
 pub room-spec : {M : Type 1} → statement M
-room-spec = tie.close (tie.spec (λ c. sym (length-replicate {0} {A = ℕ} 2621440 0)))
+room-spec = tie.close (tie.spec (λ c. sym (length-replicate {0} {A = ℕ} 4194304 0)))

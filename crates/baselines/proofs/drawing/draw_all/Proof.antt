@@ -6,8 +6,8 @@ use borrow.Author.Needs.{needs}
 use Rattle.baselines.proofs.drawing.draw_all.Statement.{statement}
 use Rattle.baselines.proofs.drawing.draw_all.Tie as tie
 
-front-of-requires : tie.Need-front-of-requires
-front-of-requires c κs =
+front-end-requires : tie.Need-front-end-requires
+front-end-requires c κs =
     sound-order Permanent _
     (sound-table Permanent _
     (c .before .before .before .before .before .before .before .before .before .before .before .before .pre .0))
@@ -23,7 +23,7 @@ walk-requires c κs =
       s .pre .0,
       (
         n .note .ensures,
-        (f .front-of .ensures .0, (f .front-of .ensures .1, (b .begins2 .given, (e .ends2 .given, (g .gones2 .given, s .pre .1))))),
+        (f .front-end .ensures, (b .begins2 .given, (e .ends2 .given, (g .gones2 .given, s .pre .1)))),
       ),
     )
 
@@ -38,7 +38,7 @@ draw-all-spec =
     (λ c. search needs)
     (λ c. search needs)
     (λ c. search needs)
-    front-of-requires
+    front-end-requires
     walk-requires
     (λ c. search needs)
     (λ c. search needs))

@@ -13,16 +13,18 @@ use Rattle.slice.specs.Record.{recordSize, viewOf, Slice}
 use Rattle.table.specs.Header.{countOf, strideOf, recordAt}
 use Rattle.history.specs.Parts.{tells, due, opensDue, laterTurn, latestWith, latestDue}
 use Rattle.state.specs.Asking.{slicesOf}
-use Rattle.state.specs.Steps.{nothing, wanted, laterOf, markOf, markDue, oneMore, tallyWith, tallyFrom}
+use Rattle.state.specs.Steps.{nothing, wanted, laterOf, markOf, markDue, oneMore, tallyWith, tallyFrom, joinFew}
 use Rattle.state.specs.declared.mention.Mark.{Mark}
 use Rattle.state.specs.declared.mention.Latest.{Latest}
 use Rattle.state.specs.declared.anchor.Few.{Few}
+use Rattle.state.specs.declared.front.Bases.{Bases}
 use Rattle.state.specs.declared.anchor.Few.the-variants.{Zero}
+use Rattle.state.proofs.Bases.{bases-stand}
 use Rattle.state.proofs.Slices.{slices-length, slices-at, slices-end}
 use Rattle.state.proofs.Walks.{Read, read-here}
 use Rattle.state.proofs.Marks.{Noted, noted-start, noted-turn, noted-wanted, pass-front, Keeps, keeps-turn, keeps-past}
 use Rattle.state.proofs.Marks.{keeps-end, mark-turn, latest-past, tally-past, tally-turn}
-use Rattle.state.proofs.Front.{none-due, none-opens, opens-told}
+use Rattle.state.proofs.BaselinesFirst.{none-due, none-opens, opens-told}
 use borrow.Author.Needs.{needs}
 use Rattle.state.proofs.survey.survey_permanent.Statement.{statement}
 use Rattle.state.proofs.survey.survey_permanent.Tie as tie
@@ -52,13 +54,13 @@ abbrev μ-loop : tie.MeasureT-loop
 -- the record that a turn looks at, and the slice that it says
 module _ (k : tie.After-record-at Inv-loop2 μ-loop2 Inv-loop μ-loop) where
   abbrev start : tie.Start Inv-loop2 μ-loop2 Inv-loop μ-loop
-  start = k .before .before .before .before .before .before .before .before .before .before
+  start = k .before .before .before .before .before .before .before .before .before .before .before
 
   abbrev table : List ℕ
   table = start .args .permanent .now
 
   abbrev stride : ℕ
-  stride = k .before .before .before .before .before .before .before .before .stride-of .result
+  stride = k .before .before .before .before .before .before .before .before .before .stride-of .result
 
   abbrev place : ℕ
   place = k .before .before .loop .i
@@ -87,8 +89,8 @@ module _ (k : tie.After-record-at Inv-loop2 μ-loop2 Inv-loop μ-loop) where
   below = omega arith
 
   read : Read table place stride (k .record-at .result .now)
-  read = read-here table place (k .before .before .before .before .before .before .before .record-size .ensures)
-      (k .record-at .ensures .0) (k .before .before .before .before .before .before .before .before .stride-of .ensures)
+  read = read-here table place (k .before .before .before .before .before .before .before .before .record-size .ensures)
+      (k .record-at .ensures .0) (k .before .before .before .before .before .before .before .before .before .stride-of .ensures)
       (start .pre .0 .whole) below
 
   next : drop place (slicesOf table) ≡ here ∷ drop (place + 1) (slicesOf table)
@@ -115,10 +117,10 @@ told v = let k = v .before in
 loop-holds : tie.Need-loop-holds Inv-loop2 μ-loop2 Inv-loop μ-loop
 unfolding latestDue
 loop-holds c =
-    let a = c .before .before .before .before .before .before .before .args in
+    let a = c .before .before .before .before .before .before .before .before .args in
     let p = a .permanent .now in
     let s = c .before .since-of .result in
-    let f = c .before .before .front-of in
+    let f = c .before .before .before .front-of in
     let most : f .result .end ≤ length (slicesOf p) = omega (arith, f .ensures .1 .0, slices-length p) in (
       omega (arith, f .ensures .1 .0),
       (
@@ -232,12 +234,13 @@ loop-again c =
 returns : tie.Need-returns Inv-loop2 μ-loop2 Inv-loop μ-loop
 returns c =
     let l = c .before .loop in
-    let a = c .before .before .before .before .before .before .before .before .before .args in
+    let a = c .before .before .before .before .before .before .before .before .before .before .args in
     let p = a .permanent .now in
     let s = c .before .before .before .since-of .result in
-    let b = c .before .before .before .before .front-of .result .bases in
+    let together = c .before .before .before .before .together in
+    let front = c .before .before .before .before .before .front-of in
     let done = slices-end p (l .i) (omega arith) in (
-      c .before .before .before .before .front-of .ensures .0,
+      together .ensures ∙ (ap (λ (b : Bases). joinFew (b .fixed) (b .endless)) (front .ensures .0) ∙ bases-stand (a .instant) (slicesOf p)),
       (
         keeps-end (tallyWith (opensDue s (a .instant))) (λ few. few) (l .openings)
             (tallyFrom (opensDue s (a .instant)) 0 Zero (slicesOf p)) (l .i) _ done (l .inv .1 .0)
@@ -267,6 +270,7 @@ survey-permanent-spec =
     (λ c κs. search needs)
     (λ c. search needs)
     (λ c κs. c .before .before .before .before .pre .0)
+    (λ c κs. search needs)
     (λ c κs. search needs)
     (λ c κs. search needs)
     loop-holds

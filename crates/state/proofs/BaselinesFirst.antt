@@ -1,4 +1,4 @@
--- A permanent table's BASELINEs stand in front: none holds behind them, and no change stands among them. Assumes nothing.
+-- A permanent table's BASELINEs stand in front: none has begun behind them, and no change stands among them. Assumes nothing.
 use Prim.Native.Nat.{ℕ, _≤_, _<_}
 use mathlib.Core.Path.{_≡_, ap}
 use mathlib.Core.List.{List, _∷_}
@@ -13,8 +13,7 @@ use Rattle.numbers.specs.Numbers.{lowerSequence}
 use Rattle.numbers.specs.declared.Instant.{Instant}
 use Rattle.slice.specs.Record.{baseline, permdelta, keyLess, sameKey, Slice}
 use Rattle.history.specs.Counted.{counts, sliceKey}
-use Rattle.history.specs.Anchor.{stands}
-use Rattle.history.specs.Parts.{tells, due, opensDue}
+use Rattle.history.specs.Parts.{begun, tells, due, opensDue}
 
 -- a slice of a kind above BASELINE, and all behind it
 pub kinds-rise : (d : Slice) (ds : List Slice) → Rising sliceKey keyLess sameKey (d ∷ ds) → baseline < d .kind → (x : Slice)
@@ -28,9 +27,9 @@ not-counted : (kind : ℕ) (d : Slice) → eqb (d .kind) kind ≡ false → coun
 unfolding counts
 not-counted kind d e = rw e
 
-pub none-stands : (slices : List Slice) (t : Instant) (x : Slice) → baseline < x .kind → stands slices t x ≡ false
-unfolding stands
-none-stands slices t x h =
+pub none-begun : (t : Instant) (x : Slice) → baseline < x .kind → begun t x ≡ false
+unfolding begun
+none-begun t x h =
     let e : eqb (x .kind) baseline ≡ false = omega tests in
     rw (not-counted baseline x e)
 
