@@ -17,36 +17,36 @@ use Rattle.history.specs.Derived.{twoAnchors}
 use Rattle.state.specs.Asking.{slicesOf, permanentTests}
 use Rattle.state.proofs.Stages.{check-refuses, check-passes}
 use Rattle.baselines.specs.Deriving.{derivedRecords, derivingTests, refusedDerivation, derivationOf}
-use Rattle.baselines.specs.Steps.{drawnOf, handedOf}
+use Rattle.baselines.specs.Steps.{countedOf, handedOf}
 use Rattle.baselines.specs.declared.derivation.Derivation.the-variants as derivation
-use Rattle.baselines.specs.declared.drawing.Drawn.{Drawn}
-use Rattle.baselines.specs.declared.drawing.Drawn.the-variants.{Two, Records}
+use Rattle.baselines.specs.declared.counting.Counted.{Counted}
+use Rattle.baselines.specs.declared.counting.Counted.the-variants.{Two, Records}
 
--- ---- what the walk tells
-abbrev isTwo : Drawn → Bool
+-- ---- what the first sweep tells
+abbrev isTwo : Counted → Bool
 isTwo Two = true
 isTwo (Records n) = false
 
-abbrev countIn : Drawn → ℕ
+abbrev countIn : Counted → ℕ
 countIn Two = 0
 countIn (Records n) = n
 
-drawn-two : (b : Bool) (m : ℕ) → cond b Two (Records m) ≡ Two → b ≡ true
-drawn-two true m e = refl
-drawn-two false m e = absurd (true≢false (sym (ap isTwo e)))
+counted-two : (b : Bool) (m : ℕ) → cond b Two (Records m) ≡ Two → b ≡ true
+counted-two true m e = refl
+counted-two false m e = absurd (true≢false (sym (ap isTwo e)))
 
-drawn-records : (b : Bool) (m n : ℕ) → cond b Two (Records m) ≡ Records n → (b ≡ false) × (n ≡ m)
-drawn-records true m n e = absurd (true≢false (ap isTwo e))
-drawn-records false m n e = (refl, sym (ap countIn e))
+counted-records : (b : Bool) (m n : ℕ) → cond b Two (Records m) ≡ Records n → (b ≡ false) × (n ≡ m)
+counted-records true m n e = absurd (true≢false (ap isTwo e))
+counted-records false m n e = (refl, sym (ap countIn e))
 
 module _ (p : List ℕ) where
-  pub told-two : drawnOf p ≡ Two → twoAnchors (slicesOf p) ≡ true
-  unfolding drawnOf
-  told-two = drawn-two (twoAnchors (slicesOf p)) (length (derivedRecords p))
+  pub told-two : countedOf p ≡ Two → twoAnchors (slicesOf p) ≡ true
+  unfolding countedOf
+  told-two = counted-two (twoAnchors (slicesOf p)) (length (derivedRecords p))
 
-  pub told-records : (n : ℕ) → drawnOf p ≡ Records n → (twoAnchors (slicesOf p) ≡ false) × (n ≡ length (derivedRecords p))
-  unfolding drawnOf
-  told-records = drawn-records (twoAnchors (slicesOf p)) (length (derivedRecords p))
+  pub told-records : (n : ℕ) → countedOf p ≡ Records n → (twoAnchors (slicesOf p) ≡ false) × (n ≡ length (derivedRecords p))
+  unfolding countedOf
+  told-records = counted-records (twoAnchors (slicesOf p)) (length (derivedRecords p))
 
 -- ---- the tests in their order
 module _ (p output : List ℕ) where

@@ -21,7 +21,7 @@ use Rattle.baselines.specs.Laid.{partFor, recordFor}
 two-back : (v : ℕ) → v < 65536 → (0 * 256 + v / 256 % 256) * 256 + v % 256 ≡ v
 two-back v h = omega arith
 
-pub four-back : (v : ℕ) → v < 4294967296
+four-back : (v : ℕ) → v < 4294967296
     → (((0 * 256 + v / 256 / 256 / 256 % 256) * 256 + v / 256 / 256 % 256) * 256 + v / 256 % 256) * 256 + v % 256 ≡ v
 four-back v h = omega arith
 

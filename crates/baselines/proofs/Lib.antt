@@ -13,21 +13,31 @@ pub mod DerivedTable
 pub mod Right
 -- the derivation, one test after the other
 pub mod Decided
--- the walk from one change instant to the next, and the records drawn so far
+-- the records that are drawn, and the lines that they are drawn from
+pub mod Drawn
+-- one turn of a sweep, by the times that it carries
+pub mod Going
+-- the walk from one change instant to the next, and the records of those behind it
 pub mod Walked
--- the record of a state that is asked for says it
-pub mod Reached
--- what the noted times tell: the next change instant
-pub mod Noted
--- the record of a state, and what it becomes with another front
+-- what a sweep tells from times alone is what it tells of the slices
+pub mod Told
+-- a sweep over the events of a table tells the permanent state at each change instant
+pub mod Swept
+-- what the events of a sound table are, in order
+pub mod Events
+-- a record's own bytes say the state that it starts
+pub mod Based
+-- both lines of a sweep behind one more slice
+pub mod Lines
+-- the record of a line, and what writing into it makes of the state that it says
 pub mod Carried
--- what the answer about one change instant tells of the state there
+-- what the answer about a state tells of the standing there
 pub mod Standings
 -- a slice written as a record is read back as that slice
 pub mod Laid
 -- the bytes of a derived table: its header, and its records one by one
 pub mod Pasted
+-- one turn of each loop that notes the events of a table
+pub mod Noted
 -- every change instant of a table is below "none"
 pub mod Changes
--- the soonest of some times, one by one
-pub mod Soonest

@@ -1,5 +1,5 @@
 -- No derived record of a sound table fails the slice check: a derivation is never refused with 24. Assumes nothing.
-use Prim.Native.Nat.{ℕ, _+_, _/_, _%_, _<_}
+use Prim.Native.Nat.{ℕ, _+_, _*_, _/_, _%_, _<_}
 use mathlib.Core.Path.{_≡_, refl, sym, ap, _∙_, subst}
 use mathlib.Core.List.{List, [], _∷_, _++_, map}
 use mathlib.Core.Bool.{true, false, not}
@@ -9,17 +9,18 @@ use native.Mathlib.Omega.{arith}
 use lib.ListN.{length, take, drop}
 use lib.Dec.{eqb}
 use borrow.Author.Tests.{not-true, le-leb, eq-eqb}
-use Rattle.laws.specs.Lists.{any}
+use Rattle.laws.specs.Lists.{any, joined}
 use Rattle.laws.specs.Keyed.{In}
 use Rattle.laws.specs.Refusals.{Test, Passed, FirstFails}
 use Rattle.laws.proofs.Tests.{contrary, and-both, or-neither}
 use Rattle.laws.proofs.Lists.{map-in, any-none, none-any}
+use Rattle.laws.proofs.Pieces.{joined-length}
 use Rattle.laws.proofs.Refusals.{given-number}
 use Rattle.octets.specs.Bytes.{filled, Bytes}
 use Rattle.octets.specs.Writing.{bytesOf}
 use Rattle.numbers.specs.declared.Instant.{Instant}
 use Rattle.property.specs.Eight.{breaks, mentioned, eight}
-use Rattle.slice.specs.Record.{baseline, permdelta, permanent, ofSide, partsOf, Property, unmentioned, says, propertyOf, Slice}
+use Rattle.slice.specs.Record.{baseline, permdelta, permanent, ofSide, recordSize, partsOf, Property, unmentioned, says, propertyOf, Slice}
 use Rattle.slice.specs.Record.{viewOf}
 use Rattle.slice.specs.Check.{checkRecord}
 use Rattle.slice.specs.Rules.{timesOf, timesRight, contentRight}
@@ -29,7 +30,7 @@ use Rattle.slice.proofs.Times.{baseline-times, permdelta-times}
 use Rattle.table.specs.Header.{strideOf}
 use Rattle.table.specs.Rules.{fails, tableTests, checkTable}
 use Rattle.table.specs.declared.check.Sides.the-variants.{Permanent}
-use Rattle.table.proofs.Stays.{Good, good-all, sound-in}
+use Rattle.table.proofs.Stays.{Good, all-good, good-all, good-sized, sound-in}
 use Rattle.history.specs.Counted.{counts}
 use Rattle.history.specs.State.{State}
 use Rattle.history.specs.Permanent.{known, permanentAt}
@@ -156,6 +157,12 @@ module _ (p : List ℕ) (bytes : Bytes p) (sound : checkTable Permanent p ≡ So
   -- so that none fails
   pub derived-pass : any (fails (strideOf p) permanent) (derivedRecords p) ≡ false
   derived-pass = good-all (strideOf p) permanent (derivedRecords p) derived-passes
+
+  -- and all are of one length
+  pub derived-long : length (joined (derivedRecords p)) ≡ length (derivedRecords p) * recordSize (strideOf p)
+  derived-long =
+      joined-length (recordSize (strideOf p)) (derivedRecords p)
+      (good-sized (strideOf p) permanent (derivedRecords p) (all-good (strideOf p) permanent (derivedRecords p) derived-pass))
 
 -- ---- the answer
 -- tests of other numbers pass where one behind them is the first to fail

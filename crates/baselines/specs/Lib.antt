@@ -1,5 +1,6 @@
 pub mod Laid
 pub mod Deriving
-pub mod Noted
+pub mod Noting
+pub mod Sweeping
 pub mod Carried
 pub mod Steps

@@ -1,16 +1,17 @@
 // The derived table of a permanent table.
 ghost use mathlib.Core.Path.{_≡_};
-ghost use Prim.Native.Nat.{_*_, _≤_};
-ghost use lib.ListN.{length, take};
-ghost use Rattle.laws.specs.Lists.{joined};
+ghost use Prim.Native.Nat.{_≤_};
+ghost use lib.ListN.{length};
 ghost use Rattle.octets.specs.Writing.{pasted};
-ghost use Rattle.slice.specs.Record.{recordSize};
 ghost use Rattle.slice.specs.Record as Record;
-ghost use Rattle.table.specs.Header.{strideOf, headerOf};
+ghost use Rattle.table.specs.Header.{headerOf};
 ghost use Rattle.baselines.specs.Deriving.{derivedRecords, derivationOf, derivationReply, afterDeriving};
-ghost use Rattle.baselines.specs.Steps.{handedOf};
-use crate::drawing::Drawn;
+ghost use Rattle.baselines.specs.Steps.{Sweepable, handedOf};
+use crate::counting::Counted;
+use crate::counting::count_all;
 use crate::drawing::draw_all;
+use crate::noting::note;
+use events::sort;
 use octets::put;
 use octets::put16;
 use slice::Checked;
@@ -38,22 +39,18 @@ fn put_header(output: &mut [u8], feature: &[u8], count: u16)
     put(output, 24, &[0, 0, 0, 0, 0, 0, 0, 0]);
 }
 
-// Hands the drawn records over as a table, or answers 23 where the output does not hold them.
-fn hand_over(permanent: &[u8], drawn: &[u8], count: usize, output: &mut [u8]) -> Derivation
-    requires { ⌜ (32 ≤ length (now permanent))
-        × ((count ≤ 256)
-        × ((count ≡ length (derivedRecords (now permanent)))
-        × ((length (now drawn) ≡ 257 * recordSize (strideOf (now permanent)))
-        × (take (count * recordSize (strideOf (now permanent))) (now drawn) ≡ joined (derivedRecords (now permanent)))))) ⌝ }
+// Writes the derived table of a table where the output holds it, or answers 23.
+fn hand_over(permanent: &[u8], events: &[u64], count: usize, output: &mut [u8]) -> Derivation
+    requires sound { ⌜ Sweepable (now permanent) (now events) ⌝ }
+    requires few { ⌜ (count ≤ 256) × (count ≡ length (derivedRecords (now permanent))) ⌝ }
     ensures answer { λ r. ⌜ r ≡ handedOf (now (permanent .entry)) (now (output .entry)) ⌝ }
     ensures buffer { λ r. ⌜ now (output .exit) ≡ afterDeriving r (now (permanent .entry)) (now (output .entry)) ⌝ }
 {
-    let length = count * record_size(permanent);
-    if output.len() < 32 + length {
+    if output.len() < 32 + count * record_size(permanent) {
         return Derivation::Refused(refusals::BUFFER_SIZE);
     }
     put_header(output, &permanent[8..24], count as u16);
-    put(output, 32, &drawn[0..length]);
+    draw_all(permanent, events, output);
     Derivation::Derived(count)
 }
 
@@ -69,14 +66,17 @@ pub fn derive(permanent: &[u8], output: &mut [u8]) -> Derivation
     if let Checked::Refused(refusal) = check_table(permanent, Sides::Permanent) {
         return Derivation::Refused(refusal);
     }
-    let mut drawn = [0u8; 57568];
-    match draw_all(permanent, &mut drawn) {
-        Drawn::Two => Derivation::Refused(refusals::TWO_ANCHORS),
-        Drawn::Records(count) => {
+    let mut room = [0u64; 512];
+    let n = note(permanent, &mut room);
+    let events = &mut room[0..n];
+    sort(events);
+    match count_all(permanent, events) {
+        Counted::Two => Derivation::Refused(refusals::TWO_ANCHORS),
+        Counted::Records(count) => {
             if 256 < count {
                 return Derivation::Refused(refusals::BUFFER_SIZE);
             }
-            hand_over(permanent, &drawn, count, output)
+            hand_over(permanent, events, count, output)
         }
     }
 }

@@ -1,41 +1,37 @@
-// The records of the derived baselines, drawn one behind the other.
+// The second sweep: the records of the derived baselines, drawn into the output one behind the other.
 ghost use mathlib.Core.Path.{_≡_};
-ghost use Prim.Native.Nat.{_*_, _≤_, min};
 ghost use mathlib.Core.List.{_∷_, _++_};
+ghost use Prim.Native.Nat.{_≤_};
 ghost use lib.ListN.{length};
+ghost use Rattle.laws.specs.Lists.{joined};
 ghost use Rattle.octets.specs.Writing.{bytesOf, pasted};
 ghost use Rattle.slice.specs.Record.{recordSize};
-ghost use Rattle.slice.specs.declared.check.Checked.the-variants.{Sound};
 ghost use Rattle.table.specs.Header.{strideOf};
-ghost use Rattle.table.specs.Rules.{checkTable};
-ghost use Rattle.table.specs.declared.check.Sides.the-variants.{Permanent};
-ghost use Rattle.history.specs.Permanent.{Standing};
-ghost use Rattle.state.specs.Asking.{outcomeOf};
-ghost use Rattle.baselines.specs.Noted.{Noted, Fronted};
-ghost use Rattle.baselines.specs.Carried.{Shows};
-ghost use Rattle.baselines.specs.Steps.{stepOf, afterStep, drawnOf, Drew};
-use crate::times::change_since;
-use crate::times::front_end;
-use crate::times::note;
+ghost use Rattle.history.specs.State.{State};
+ghost use Rattle.baselines.specs.Carried.{Carries, unknownState, GoesOn};
+ghost use Rattle.baselines.specs.Steps.{Sweepable, FitsIn, drawnRecord, DrawsKnown};
+ghost use Rattle.baselines.specs.Deriving.{derivedRecords};
+use crate::counting::head;
+use crate::counting::pass;
+use crate::line::apply;
+use crate::line::copy;
+use crate::line::put_unknown;
+use crate::sweeping::Sweep;
+use crate::sweeping::is_based;
+use crate::sweeping::is_known;
+use crate::sweeping::next_of;
+use crate::sweeping::start;
+use events::place_of;
 use numbers::Instant;
 use numbers::SequenceNumber;
+use octets::byte;
 use octets::put;
 use octets::put32;
-use state::Outcome;
-use state::state_at;
+use slice::BASELINE;
+use slice::life_of;
+use table::record_at;
+use table::record_size;
 use table::stride_of;
-
-// What one change instant gives: whether it has two anchors, and how many records.
-pub struct Step {
-    pub two: bool,
-    pub records: usize,
-}
-
-// What all change instants give: two anchors at one of them, or how many records.
-pub enum Drawn {
-    Two,
-    Records(usize),
-}
 
 // Makes the record of a state that of a BASELINE: its kind, its sequence number, its begin and its end.
 fn put_front(record: &mut [u8], sequence: SequenceNumber, begin: Instant, end: Instant)
@@ -50,106 +46,126 @@ fn put_front(record: &mut [u8], sequence: SequenceNumber, begin: Instant, end: I
     put32(record, 12, end.0);
 }
 
-// Draws the BASELINE from one change instant to the next, where there is a permanent state: the current
-// record says it.
+// Draws the BASELINE of a state from one change instant to the next: the record of its line says it.
 fn draw(
     record: &mut [u8],
-    current: &[u8],
-    told: Outcome,
+    line: &[u8],
     stride: usize,
     sequence: SequenceNumber,
     begin: Instant,
     end: Instant,
-) -> Step
-    requires { ⌜ (length (now «record») ≡ recordSize stride) × (length (now current) ≡ recordSize stride) ⌝ }
-    ensures step { λ r. ⌜ ((v : Standing) → told ≡ outcomeOf v → Shows stride v (now (current .entry))
-        → r ≡ stepOf stride (sequence .0) begin end v) ⌝ }
-    ensures buffer { λ r. ⌜ ((v : Standing) → told ≡ outcomeOf v → Shows stride v (now (current .entry))
-        → now («record» .exit) ≡ afterStep stride (sequence .0) begin end v (now («record» .entry))) ⌝ }
+)
+    requires { ⌜ (length (now «record») ≡ recordSize stride) × (length (now line) ≡ recordSize stride) ⌝ }
+    ensures { λ _.
+        ⌜ ((s : State) → Carries stride s (now (line .entry))
+        → now («record» .exit) ≡ drawnRecord stride (sequence .0) begin end s) ⌝ }
 {
-    if let Outcome::Refused(refusal) = told {
-        return Step {
-            two: refusal.number == 21,
-            records: 0,
-        };
-    }
-    put(record, 0, current);
+    copy(record, line, 0, line.len());
     put_front(record, sequence, begin, end);
-    Step {
-        two: false,
-        records: 1,
-    }
 }
 
-// Where the next record is drawn: behind those before it, and from the 257th on all in one place.
-fn place_in(count: usize, size: usize) -> usize
-    requires { ⌜ size ≤ 4096 ⌝ }
-    ensures { λ r. ⌜ r ≡ min count 256 * size ⌝ }
+// Draws the BASELINE of the state that is known at a change instant until the next one: that of the line of the
+// BASELINE that holds, or else that of the opening.
+fn draw_known(
+    record: &mut [u8],
+    base: &[u8],
+    line: &[u8],
+    stride: usize,
+    s: Sweep,
+    sequence: SequenceNumber,
+    t: Instant,
+    end: Instant,
+)
+    requires { ⌜ (length (now «record») ≡ recordSize stride)
+        × ((length (now base) ≡ recordSize stride) × (length (now line) ≡ recordSize stride)) ⌝ }
+    ensures { λ _. ⌜ DrawsKnown stride s t (now (base .entry)) (now (line .entry)) (sequence .0) end (now («record» .exit)) ⌝ }
 {
-    if count < 256 {
-        return count * size;
+    if is_based(s, t) {
+        draw(record, base, stride, sequence, t, end);
+    } else {
+        draw(record, line, stride, sequence, t, end);
     }
-    256 * size
 }
 
-// Draws the record of each change instant that has a permanent state, one behind the other. All that come
-// behind the first 256 are drawn over each other: they are counted, and no table holds them.
-fn walk(
+// Carries both lines on by the record of an event: a BASELINE begins its own; a PERMDELTA is applied to that
+// of the BASELINE that holds, unless it begins there too, and to that of the first opening, which it may be.
+fn carry(base: &mut [u8], line: &mut [u8], record: &[u8], stride: usize, s: Sweep, t: Instant)
+    requires { ⌜ (length (now base) ≡ recordSize stride)
+        × ((length (now line) ≡ recordSize stride) × (length (now «record») ≡ recordSize stride)) ⌝ }
+    ensures { λ _.
+        ⌜ GoesOn stride s (now («record» .entry)) t (now (base .entry)) (now (line .entry)) (now (base .exit))
+        (now (line .exit)) ⌝ }
+{
+    if byte(record, 0) == BASELINE {
+        copy(base, record, 0, record.len());
+        return;
+    }
+    let begin = s.begin;
+    if is_based(s, t) & !begin.is(t) {
+        apply(base, record, stride);
+    }
+    let life = life_of(record);
+    let born = life.begin;
+    if (0 < s.openings) | !born.is_none() {
+        apply(line, record, stride);
+    }
+}
+
+// Draws the records of the derived baselines of a sound table behind the header of an output, by the table's
+// events in order. The record of the BASELINE's line is the first, that of the opening's the second.
+fn draw_events(
     permanent: &[u8],
-    begins: &[u32],
-    ends: &[u32],
-    gones: &[u32],
-    front: usize,
-    drawn: &mut [u8],
-) -> Drawn
-    requires { ⌜ (checkTable Permanent (now permanent) ≡ Sound)
-        × (Noted (now permanent) (now begins) (now ends) (now gones)
-        × (Fronted (now permanent) front
-        × ((length (now begins) ≡ 256)
-        × ((length (now ends) ≡ 256)
-        × ((length (now gones) ≡ 256) × (length (now drawn) ≡ 257 * recordSize (strideOf (now permanent)))))))) ⌝ }
-    ensures answer { λ r. ⌜ r ≡ drawnOf (now (permanent .entry)) ⌝ }
-    ensures buffer { λ r. ⌜ Drew r (now (permanent .entry)) (now (drawn .exit)) ⌝ }
+    events: &[u64],
+    base: &mut [u8],
+    line: &mut [u8],
+    output: &mut [u8],
+)
+    requires sound { ⌜ Sweepable (now permanent) (now events) ⌝ }
+    requires room { ⌜ FitsIn (now permanent) (now output) ⌝ }
+    requires lines { ⌜ (length (now base) ≡ recordSize (strideOf (now permanent)))
+        × ((length (now line) ≡ recordSize (strideOf (now permanent))) × Carries (strideOf (now permanent)) unknownState (now line)) ⌝ }
+    ensures { λ _. ⌜ now (output .exit) ≡ pasted (now (output .entry)) 32 (joined (derivedRecords (now (permanent .entry)))) ⌝ }
 {
     let stride = stride_of(permanent);
-    let size = 32 + 8 * stride;
-    let mut current = [0u8; 224];
-    let mut begin = change_since(permanent, begins, ends, gones, front, Instant(0));
+    let size = record_size(permanent);
+    let mut s = start();
+    let mut at = 0;
+    let mut t = head(events, 0);
     let mut count = 0;
-    while !begin.is_none() {
-        let next = Instant(begin.0 + 1);
-        let end = change_since(permanent, begins, ends, gones, front, next);
-        let told = state_at(permanent, begin, &mut current);
-        let from = place_in(count, size);
-        let sequence = SequenceNumber((count + 1) as u32);
-        let record = &mut drawn[from..from + size];
-        let step = draw(record, &current, told, stride, sequence, begin, end);
-        if step.two {
-            return Drawn::Two;
+    while !t.is_none() {
+        let next = head(events, at);
+        if next.is(t) {
+            let place = place_of(events[at]);
+            if place < 256 {
+                let record = record_at(permanent, size, place);
+                carry(base, line, record, stride, s, t);
+                s = pass(s, record, t);
+            }
+            at += 1;
+        } else {
+            let end = next_of(s, t, next);
+            if is_known(s, t) {
+                let from = 32 + count * size;
+                count += 1;
+                let sequence = SequenceNumber(count as u32);
+                let record = &mut output[from..from + size];
+                draw_known(record, base, line, stride, s, sequence, t, end);
+            }
+            t = end;
         }
-        count += step.records;
-        begin = end;
     }
-    Drawn::Records(count)
 }
 
-// Draws the records of the derived baselines: notes the times of the table's records, and walks from one
-// change instant to the next.
-pub(crate) fn draw_all(permanent: &[u8], drawn: &mut [u8]) -> Drawn
-    requires { ⌜ (checkTable Permanent (now permanent) ≡ Sound) × (length (now drawn) ≡ 257 * recordSize (strideOf (now permanent))) ⌝ }
-    ensures answer { λ r. ⌜ r ≡ drawnOf (now (permanent .entry)) ⌝ }
-    ensures buffer { λ r. ⌜ Drew r (now (permanent .entry)) (now (drawn .exit)) ⌝ }
+// Draws the records of the derived baselines of a sound table behind the header of an output.
+pub(crate) fn draw_all(permanent: &[u8], events: &[u64], output: &mut [u8])
+    requires sound { ⌜ Sweepable (now permanent) (now events) ⌝ }
+    requires room { ⌜ FitsIn (now permanent) (now output) ⌝ }
+    ensures { λ _. ⌜ now (output .exit) ≡ pasted (now (output .entry)) 32 (joined (derivedRecords (now (permanent .entry)))) ⌝ }
 {
-    let mut begins = [0u32; 256];
-    let mut ends = [0u32; 256];
-    let mut gones = [0u32; 256];
-    note(permanent, &mut begins, &mut ends, &mut gones);
-    walk(
-        permanent,
-        &begins,
-        &ends,
-        &gones,
-        front_end(permanent),
-        drawn,
-    )
+    let size = record_size(permanent);
+    let mut bases = [0u8; 288];
+    let mut lines = [0u8; 288];
+    let line = &mut lines[0..size];
+    put_unknown(line, stride_of(permanent));
+    draw_events(permanent, events, &mut bases[0..size], line, output);
 }

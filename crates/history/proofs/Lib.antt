@@ -3,6 +3,9 @@
 pub mod ReadBack
 -- deriving from derived BASELINEs is not refused and gives them again
 pub mod Again
+-- a sweep over the slices in order of their begins tells the state of an instant, where two anchors meet, and the next change
+-- instant
+pub mod Sweep
 -- the answer at an instant depends only on the slices that reach it
 pub mod Reach
 -- what touches a property, by the slices in reach; and how many slices are looked at from the end
@@ -25,5 +28,7 @@ pub mod Stretches
 pub mod Periods
 -- the order by instant and then sequence number is strict and total
 pub mod Orders
+-- the two lines that a sweep carries, and the permanent state read off them
+pub mod SweepLines
 -- what is kept of a list, and what is in joined lists
 pub mod Selection

@@ -10,4 +10,5 @@ pub mod Touched
 pub mod Parts
 pub mod Changes
 pub mod Derived
+pub mod Sweep
 pub mod Examples
