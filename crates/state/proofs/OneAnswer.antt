@@ -6,9 +6,7 @@ use Rattle.laws.specs.OneAnswer.{OneAnswerAs, shown}
 use Rattle.laws.proofs.OneAnswer.{same, both}
 use Rattle.state.proofs.Replies.{outcome-told, place-told, source-told, touched-told}
 use Rattle.state.proofs.answer.permanent_state.Kinds as permanent-state-k
-use Rattle.state.proofs.answer.state_at.Kinds as state-at-k
 use Rattle.state.proofs.answer.permanent_state.Reads as permanent-state
-use Rattle.state.proofs.answer.state_at.Reads as state-at
 use Rattle.state.proofs.answer.snapshot.Kinds as snapshot-k
 use Rattle.state.proofs.answer.snapshot.Reads as snapshot
 use Rattle.state.proofs.question.locate.Kinds as locate-k
@@ -22,14 +20,6 @@ use Rattle.state.proofs.touching.touched.Reads as touched
 
 pub permanent-state-one : OneAnswer permanent-state-k.ps permanent-state-k.r permanent-state.Asked permanent-state.Learnt
 permanent-state-one κs a = (
-  tt,
-  λ z z' ws ws' p q.
-      let e = outcome-told z z' (same (p .0) (q .0)) in
-      (e, both refl (both refl (both (same (rw e at (p .1)) (q .1)) refl))),
-)
-
-pub state-at-one : OneAnswer state-at-k.ps state-at-k.r state-at.Asked state-at.Learnt
-state-at-one κs a = (
   tt,
   λ z z' ws ws' p q.
       let e = outcome-told z z' (same (p .0) (q .0)) in

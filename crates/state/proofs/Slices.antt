@@ -18,7 +18,6 @@ use Rattle.slice.specs.declared.record.Key.{Key}
 use Rattle.slice.specs.declared.check.Checked.the-variants.{Sound}
 use Rattle.table.specs.Header.{sideOf, countOf, strideOf, roomOf, recordsOf, recordAt}
 use Rattle.table.specs.Rules.{inOrder, checkTable}
-use Rattle.table.specs.Steps.{Ordered}
 use Rattle.table.specs.declared.check.Sides.{Sides}
 use Rattle.table.proofs.Records.{records-length, rest-at}
 use Rattle.table.proofs.Sound.{sound-table}
@@ -129,10 +128,7 @@ module _ (t : List ℕ) where
   pub sound-rising : (sides : Sides) → checkTable sides t ≡ Sound → Rising sliceKey keyLess sameKey (slicesOf t)
   sound-rising sides e = slices-rising (sound-table sides t e .rising)
 
-  -- a table in order can be walked, and so can a sound one
-  pub ordered-walkable : Ordered size t → Walkable t
-  ordered-walkable h = record { whole = h .roomy; rising = slices-rising (h .rising) }
-
+  -- a sound table can be walked
   pub sound-walkable : (sides : Sides) → checkTable sides t ≡ Sound → Walkable t
   sound-walkable sides e = record { whole = sound-table sides t e .roomy; rising = sound-rising sides e }
 

@@ -17,12 +17,12 @@ use Rattle.slice.specs.declared.check.Refusal.{Refusal}
 use Rattle.slice.specs.declared.check.Checked.the-variants.{Sound, Refused}
 use Rattle.slice.proofs.Sound.{refused-apart, refused-tells}
 use Rattle.table.specs.Header.{featureOf, strideOf}
-use Rattle.table.specs.Rules.{tableTests, checkTable, orderTests, checkOrder}
+use Rattle.table.specs.Rules.{tableTests, checkTable}
 use Rattle.table.specs.declared.check.Sides.the-variants as sides
 use Rattle.history.specs.Permanent.{Standing, permanentAt}
 use Rattle.history.specs.Snapshot.{snapshotAt}
 use Rattle.state.specs.Asking.{slicesOf, permanentTests, bothTests, checkBoth, misfits, writingTests, askingTests}
-use Rattle.state.specs.Asking.{refusedOutcome, outcomeOf, permanentStateOf, stateAtOf, snapshotOf, refusedPlace, placeAt}
+use Rattle.state.specs.Asking.{refusedOutcome, outcomeOf, permanentStateOf, snapshotOf, refusedPlace, placeAt}
 use Rattle.state.specs.Asking.{placeOf}
 use Rattle.state.specs.Steps.{leftOf}
 use Rattle.state.specs.declared.answer.Outcome.the-variants as outcome
@@ -93,14 +93,6 @@ module _ (p : List ℕ) (at : Instant) (buffer : List ℕ) where
       → leftOf p at buffer (permanentAt at (slicesOf p)) ≡ permanentStateOf p at buffer
   unfolding permanentStateOf permanentTests checkTable
   state-left e = sym (check-passes refusedOutcome (tableTests (strideOf p) sides.Permanent p) (writingTests p at buffer) _ e)
-
-  pub order-refused : (f : Refusal) → checkOrder p ≡ Refused f → outcome.Refused f ≡ stateAtOf p at buffer
-  unfolding stateAtOf checkOrder
-  order-refused f e = sym (check-refuses refusedOutcome (orderTests (strideOf p) p) (writingTests p at buffer) _ f e)
-
-  pub order-left : checkOrder p ≡ Sound → leftOf p at buffer (permanentAt at (slicesOf p)) ≡ stateAtOf p at buffer
-  unfolding stateAtOf checkOrder
-  order-left e = sym (check-passes refusedOutcome (orderTests (strideOf p) p) (writingTests p at buffer) _ e)
 
   module _ (t : List ℕ) where
     pub snapshot-refused : (f : Refusal) → checkBoth p t ≡ Refused f → outcome.Refused f ≡ snapshotOf p t at buffer

@@ -19,7 +19,7 @@ use Rattle.slice.specs.Check.{refusalReply, refused}
 use Rattle.slice.specs.declared.check.Checked.{Checked}
 use Rattle.slice.specs.declared.check.Checked.the-variants.{Sound}
 use Rattle.table.specs.Header.{featureOf, strideOf, recordsOf}
-use Rattle.table.specs.Rules.{tableTests, orderTests, ruling}
+use Rattle.table.specs.Rules.{tableTests, ruling}
 use Rattle.table.specs.declared.check.Sides.the-variants as sides
 use Rattle.history.specs.Counted.{sliceKey}
 use Rattle.history.specs.Permanent.{Standing, refuses, known, permanentAt}
@@ -70,11 +70,6 @@ outcomeOf (known s) = outcome.Written
 unfoldable pub permanentStateOf : List ℕ → Instant → List ℕ → Outcome
 permanentStateOf p at buffer =
     refuse refusedOutcome (permanentTests p ++ writingTests p at buffer) (outcomeOf (permanentAt at (slicesOf p)))
-
--- the same of a table whose records were checked before: 5 and 7 alone
-unfoldable pub stateAtOf : List ℕ → Instant → List ℕ → Outcome
-stateAtOf p at buffer =
-    refuse refusedOutcome (orderTests (strideOf p) p ++ writingTests p at buffer) (outcomeOf (permanentAt at (slicesOf p)))
 
 unfoldable pub snapshotOf : List ℕ → List ℕ → Instant → List ℕ → Outcome
 snapshotOf p t at buffer =
@@ -173,6 +168,6 @@ Tells p t b (place.Refused f) = ⊥
 
 -- `unfolding asking` opens every definition that a question computes by
 unfoldable pub asking : Unit {0}
-unfolding slicesOf permanentTests bothTests checkBoth misfits permanentStateOf stateAtOf snapshotOf outcomeReply placeIn placeOf
+unfolding slicesOf permanentTests bothTests checkBoth misfits permanentStateOf snapshotOf outcomeReply placeIn placeOf
     placeReply sourceReply stateRecord line mentions lastMention instants ruling
 asking = tt

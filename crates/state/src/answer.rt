@@ -1,9 +1,7 @@
 // The permanent state and the snapshot, written as a record.
 ghost use mathlib.Core.Path.{_≡_};
-ghost use Rattle.history.specs.Permanent.{permanentAt};
-ghost use Rattle.state.specs.Asking.{slicesOf, checkBoth, permanentStateOf, stateAtOf, snapshotOf};
+ghost use Rattle.state.specs.Asking.{checkBoth, permanentStateOf, snapshotOf};
 ghost use Rattle.state.specs.Asking.{outcomeReply, afterState, afterSnapshot};
-ghost use Rattle.state.specs.Steps.{Walkable, leftOf};
 use crate::anchor::Standing;
 use crate::anchor::settle;
 use crate::overlay::overlay;
@@ -15,7 +13,6 @@ use slice::Checked;
 use slice::Refusal;
 use slice::refusals;
 use table::Sides;
-use table::check_order;
 use table::check_table;
 use table::record_size;
 
@@ -42,14 +39,16 @@ pub(crate) fn check_both(permanent: &[u8], temporary: &[u8]) -> Checked
     Checked::Sound
 }
 
-// Behind the check of the table: 19, 23, and then the permanent state.
-fn write_state(permanent: &[u8], instant: Instant, record: &mut [u8]) -> Outcome
-    requires { ⌜ Walkable (now permanent) ⌝ }
-    ensures answer { λ r. ⌜ r
-        ≡ leftOf (now (permanent .entry)) instant (now («record» .entry))
-        (permanentAt instant (slicesOf (now (permanent .entry)))) ⌝ }
+// Writes the permanent state at an instant into a record of the table's size. Refused, with every byte as
+// it was: 1 to 7 for the table, 19 for no instant, 23 for a record of another size, 21 for two anchors, 20
+// where no state is known, 22 where the feature is withdrawn.
+pub fn permanent_state(permanent: &[u8], instant: Instant, record: &mut [u8]) -> Outcome
+    ensures answer { λ r. ⌜ outcomeReply r ≡ outcomeReply (permanentStateOf (now (permanent .entry)) instant (now («record» .entry))) ⌝ }
     ensures buffer { λ r. ⌜ now («record» .exit) ≡ afterState r (now (permanent .entry)) instant (now («record» .entry)) ⌝ }
 {
+    if let Checked::Refused(refusal) = check_table(permanent, Sides::Permanent) {
+        return Outcome::Refused(refusal);
+    }
     if instant.is_none() {
         return Outcome::Refused(refusals::INSTANT_OR_PROPERTY);
     }
@@ -73,31 +72,6 @@ fn write_state(permanent: &[u8], instant: Instant, record: &mut [u8]) -> Outcome
             Outcome::Written
         }
     }
-}
-
-// Writes the permanent state at an instant into a record of the table's size. Refused, with every byte as
-// it was: 1 to 7 for the table, 19 for no instant, 23 for a record of another size, 21 for two anchors, 20
-// where no state is known, 22 where the feature is withdrawn.
-pub fn permanent_state(permanent: &[u8], instant: Instant, record: &mut [u8]) -> Outcome
-    ensures answer { λ r. ⌜ outcomeReply r ≡ outcomeReply (permanentStateOf (now (permanent .entry)) instant (now («record» .entry))) ⌝ }
-    ensures buffer { λ r. ⌜ now («record» .exit) ≡ afterState r (now (permanent .entry)) instant (now («record» .entry)) ⌝ }
-{
-    if let Checked::Refused(refusal) = check_table(permanent, Sides::Permanent) {
-        return Outcome::Refused(refusal);
-    }
-    write_state(permanent, instant, record)
-}
-
-// The same of a table that was checked before, for one who asks about many instants: of 1 to 7 only 5 and
-// 7 are looked at again, by which its records are walked.
-pub fn state_at(permanent: &[u8], instant: Instant, record: &mut [u8]) -> Outcome
-    ensures answer { λ r. ⌜ outcomeReply r ≡ outcomeReply (stateAtOf (now (permanent .entry)) instant (now («record» .entry))) ⌝ }
-    ensures buffer { λ r. ⌜ now («record» .exit) ≡ afterState r (now (permanent .entry)) instant (now («record» .entry)) ⌝ }
-{
-    if let Checked::Refused(refusal) = check_order(permanent) {
-        return Outcome::Refused(refusal);
-    }
-    write_state(permanent, instant, record)
 }
 
 // Writes the snapshot at an instant into a record of the tables' size: the permanent state with the

@@ -15,7 +15,6 @@ mod writing;
 pub use answer::Outcome;
 pub use answer::permanent_state;
 pub use answer::snapshot;
-pub use answer::state_at;
 pub use looking::Touched;
 pub use question::Place;
 pub use question::Source;

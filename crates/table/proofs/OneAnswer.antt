@@ -21,9 +21,7 @@ use Rattle.table.proofs.header.record_at.Kinds as record-at-k
 use Rattle.table.proofs.header.record_at.Reads as record-at
 use Rattle.table.proofs.check.takes_side.Kinds as takes-side-k
 use Rattle.table.proofs.check.takes_side.Reads as takes-side
-use Rattle.table.proofs.check.check_order.Kinds as check-order-k
 use Rattle.table.proofs.check.check_table.Kinds as check-table-k
-use Rattle.table.proofs.check.check_order.Reads as check-order
 use Rattle.table.proofs.check.check_table.Reads as check-table
 use Rattle.table.proofs.create.new_table.Kinds as new-table-k
 use Rattle.table.proofs.create.new_table.Reads as new-table
@@ -56,9 +54,6 @@ takes-side-one κs a = (tt, λ z z' ws ws' p q. (same p q, refl))
 
 pub check-table-one : OneAnswer check-table-k.ps check-table-k.r check-table.Asked check-table.Learnt
 check-table-one κs a = (tt, λ z z' ws ws' p q. (checked-told z z' (same p q), refl))
-
-pub check-order-one : OneAnswer check-order-k.ps check-order-k.r check-order.Asked check-order.Learnt
-check-order-one κs a = (tt, λ z z' ws ws' p q. (checked-told z z' (same p q), refl))
 
 pub new-table-one : OneAnswer new-table-k.ps new-table-k.r new-table.Asked new-table.Learnt
 new-table-one κs a = (

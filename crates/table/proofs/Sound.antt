@@ -16,9 +16,8 @@ use Rattle.slice.specs.declared.check.Refusal.{Refusal}
 use Rattle.slice.specs.declared.check.Checked.the-variants.{Sound, Refused}
 use Rattle.slice.proofs.Sound.{refused-apart, refused-tells}
 use Rattle.table.specs.Header.{lettered, sideOf, versionOf, countOf, featureOf, strideOf, roomOf, recordsOf}
-use Rattle.table.specs.Rules.{takes, fails, inOrder, tableTests, checkTable, orderTests, checkOrder}
+use Rattle.table.specs.Rules.{takes, fails, inOrder, tableTests, checkTable}
 use Rattle.table.specs.Arriving.{refusedArrival, recordOf, filingOf, arrivalOf}
-use Rattle.table.specs.Steps.{Ordered}
 use Rattle.table.specs.declared.check.Sides.{Sides}
 use Rattle.table.specs.declared.check.Sides.the-variants.{Both}
 use Rattle.table.specs.declared.arrival.Arrival.{Arrival}
@@ -62,17 +61,6 @@ module _ (sides : Sides) (t : List ℕ) where
           (ap not (eq-eqb _ _ (h .version)), (ap not (h .reserved), (le-ltb _ _ (h .roomy), (h .sound, (ap not (h .rising), tt))))),
         ),
       )
-
-  -- 5 and 7 alone
-  pub sound-order : SoundTable (strideOf t) sides t → checkOrder t ≡ Sound
-  unfolding checkOrder orderTests
-  sound-order h = answer-given refused Sound (orderTests (strideOf t) t) (le-ltb _ _ (h .roomy), (ap not (h .rising), tt))
-
-pub order-sound : (t : List ℕ) → checkOrder t ≡ Sound → Ordered (recordSize (strideOf t)) t
-unfolding checkOrder orderTests
-order-sound t e =
-    let p = given-passed refused Sound refused-apart (orderTests (strideOf t) t) e in
-    record { roomy = ltb-false _ _ (p .0); rising = not-false _ (p .1 .0) }
 
 -- a table is refused with the number of the first test that it fails, and with no other
 module _ (sides : Sides) (t : List ℕ) (n : ℕ) where

@@ -56,15 +56,7 @@ tableTests stride sides t =
 unfoldable pub checkTable : Sides → List ℕ → Checked
 checkTable sides t = refuse refused (tableTests (strideOf t) sides t) Sound
 
--- 5 and 7 alone, by which a walk over the records goes
-unfoldable pub orderTests : ℕ → List ℕ → List Test
-orderTests stride t =
-    test 5 (ltb (roomOf (recordSize stride) t) (countOf t)) ∷ test 7 (not (inOrder (recordsOf (recordSize stride) t))) ∷ []
-
-unfoldable pub checkOrder : List ℕ → Checked
-checkOrder t = refuse refused (orderTests (strideOf t) t) Sound
-
 -- `unfolding ruling` opens every definition that the check computes by
 unfoldable pub ruling : Unit {0}
-unfolding fails failing inOrder tableTests checkTable orderTests checkOrder header keyLess sameKey lexLess checking
+unfolding fails failing inOrder tableTests checkTable header keyLess sameKey lexLess checking
 ruling = tt

@@ -3,7 +3,7 @@ ghost use mathlib.Core.Path.{_≡_};
 ghost use Rattle.slice.specs.Record.{recordSize};
 ghost use Rattle.slice.specs.Check.{checkedReply};
 ghost use Rattle.table.specs.Header.{countOf, recordsOf};
-ghost use Rattle.table.specs.Rules.{takes, failing, inOrder, checkTable, checkOrder};
+ghost use Rattle.table.specs.Rules.{takes, failing, inOrder, checkTable};
 ghost use Rattle.table.specs.Steps.{Roomy};
 use crate::header::count_of;
 use crate::header::is_lettered;
@@ -106,22 +106,6 @@ pub fn check_table(table: &[u8], sides: Sides) -> Checked
         return Checked::Refused(refusals::RECORD_IN_TABLE);
     };
     if !is_in_order(table, size, count) {
-        return Checked::Refused(refusals::RECORD_ORDER);
-    }
-    Checked::Sound
-}
-
-// Rules 5 and 7 alone, by which a walk over the records of a table goes: for one whose records were
-// checked before.
-pub fn check_order(table: &[u8]) -> Checked
-    ensures { λ r. ⌜ checkedReply r ≡ checkedReply (checkOrder (now (table .entry))) ⌝ }
-{
-    let size = record_size(table);
-    let counted = count_of(table) as usize;
-    if room_of(table, size) < counted {
-        return Checked::Refused(refusals::COUNT_OVER_ROOM);
-    }
-    if !is_in_order(table, size, counted) {
         return Checked::Refused(refusals::RECORD_ORDER);
     }
     Checked::Sound

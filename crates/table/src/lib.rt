@@ -8,7 +8,6 @@ mod header;
 pub use arrival::Arrival;
 pub use arrival::arrive;
 pub use check::Sides;
-pub use check::check_order;
 pub use check::check_table;
 pub use create::Creation;
 pub use create::new_table;
