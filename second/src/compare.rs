@@ -461,7 +461,7 @@ impl fmt::Display for Difference {
 #[cfg(test)]
 mod tests {
     use super::*;
-    use crate::library::{BY_STEPS, ON_HEAP, PLAIN};
+    use crate::library::{ON_HEAP, PLAIN};
     use crate::record::{self, Head, Span, NONE};
     use crate::table::Table;
 
@@ -487,7 +487,6 @@ mod tests {
     #[test]
     fn the_plain_program_is_the_same() {
         let tally = same(&PLAIN);
-        assert_eq!(same(&BY_STEPS), tally);
         assert_eq!(same(&ON_HEAP), tally);
         assert_eq!(tally.unseen(), []);
     }

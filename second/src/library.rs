@@ -32,7 +32,7 @@ pub struct Library {
     pub listing: fn(&[u8], &mut [u8]) -> Reply,
 }
 
-/// The plain program, which derives in sweeps without a heap.
+/// The plain program, which derives without a heap.
 pub const PLAIN: Library = Library {
     new_table: |table, side, feature| Reply::of_writing(plain::new_table(table, side, feature)),
     arrive: |table, slice| Reply::of_arrival(plain::arrive(table, slice)),
@@ -48,22 +48,11 @@ pub const PLAIN: Library = Library {
     touched: |temporary, instant, property| {
         Reply::of_touched(plain::touched(temporary, instant, property))
     },
-    derive: |permanent, output| Reply::of_derived(plain::derive_by_sweeps(permanent, output)),
-    listing: |permanent, text| {
-        Reply::of_listing(plain::list(permanent, text, plain::derive_by_sweeps))
-    },
+    derive: |permanent, output| Reply::of_derived(plain::derive(permanent, output)),
+    listing: |permanent, text| Reply::of_listing(plain::list(permanent, text, plain::derive)),
 };
 
-/// The plain program that derives in steps.
-pub const BY_STEPS: Library = Library {
-    derive: |permanent, output| Reply::of_derived(plain::derive_by_steps(permanent, output)),
-    listing: |permanent, text| {
-        Reply::of_listing(plain::list(permanent, text, plain::derive_by_steps))
-    },
-    ..PLAIN
-};
-
-/// The plain program that derives in a sweep with a heap.
+/// The plain program that derives with a heap.
 pub const ON_HEAP: Library = Library {
     derive: |permanent, output| Reply::of_derived(plain::derive_on_heap(permanent, output)),
     listing: |permanent, text| {

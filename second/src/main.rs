@@ -88,8 +88,11 @@ fn with_library(words: &[&str]) -> Option<bool> {
     let (limit, seed) = match words {
         #[cfg(feature = "fuzz")]
         ["fuzz", words @ ..] => return Some(fuzz::driver::run(words)),
-        ["bench"] => return Some(bench::run(&linked::LINKED, 21)),
-        ["bench", rounds] => return Some(bench::run(&linked::LINKED, rounds.parse().ok()?)),
+        ["bench"] => return Some(bench::run(&linked::LINKED, 21, "")),
+        ["bench", rounds] => return Some(bench::run(&linked::LINKED, rounds.parse().ok()?, "")),
+        ["bench", rounds, letters] => {
+            return Some(bench::run(&linked::LINKED, rounds.parse().ok()?, letters))
+        }
         ["compare"] => (Limit::Rounds(200), 1),
         ["compare", limit] => (Limit::of(limit)?, 1),
         ["compare", limit, seed] => (Limit::of(limit)?, seed.parse().ok()?),
@@ -122,7 +125,7 @@ fn main() -> ExitCode {
         Some(false) => ExitCode::FAILURE,
         None => {
             eprintln!(
-                "usage: second vectors [input|answers [SEED]] | listings FOLDER | samples FOLDER | compare [ROUNDS|SECONDSs] [SEED] | bench [ROUNDS]"
+                "usage: second vectors [input|answers [SEED]] | listings FOLDER | samples FOLDER | compare [ROUNDS|SECONDSs] [SEED] | bench [ROUNDS [LETTERS]]"
             );
             ExitCode::from(UNKNOWN)
         }

@@ -3,12 +3,11 @@
 //! `derived` and `listing`.
 
 mod derive;
-mod few;
 mod listing;
-mod standing;
 mod state;
+mod sweep;
 
-pub use derive::{derive_by_steps, derive_by_sweeps, derive_on_heap};
+pub use derive::{derive, derive_on_heap};
 pub use listing::list;
 pub use state::{permanent_state, property, snapshot, touched};
 

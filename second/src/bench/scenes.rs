@@ -1,13 +1,14 @@
 //! What is measured: each call on tables of this many records, with the expected reply.
 
-use super::derived::{self, Shape};
+use super::derived::{self, Order, Shape, SHAPES};
 use super::questions::{asked, name, Make};
 use super::touches::{self, Hit};
 use super::{Call, Scene, Use, RECORDS, TEXT};
+use crate::derived::derive;
 use crate::fixtures::{cases, table_of, FEATURE, RECORD};
 use crate::layout::{bytes_of, HEADER_BYTES, RECORD_BYTES};
 use crate::library::Reply;
-use crate::listing::list;
+use crate::listing::{list, MOST_BYTES};
 use crate::question::property;
 use crate::random::Random;
 use crate::record::{Kind, Side};
@@ -49,9 +50,17 @@ pub fn all(count: usize) -> Vec<Scene> {
         let names = HITS.map(name);
         all.extend(scenes(count, names, |seed| touching(make, count, seed)));
     }
+    for (shape, order) in SHAPES {
+        let name = format!("tsl_derive, {}", derived::name(shape, order));
+        all.extend(scenes(count, [(name, 1)], |seed| {
+            [deriving(derived::table(shape, order, count, seed))]
+        }));
+    }
     for shape in [Shape::Row, Shape::Line, Shape::Open] {
-        let names = ["derive", "listing"].map(|name| (format!("tsl_{name}, {shape:?}"), 1));
-        all.extend(scenes(count, names, |seed| products(shape, count, seed)));
+        let name = format!("tsl_listing, {shape:?}");
+        all.extend(scenes(count, [(name, 1)], |seed| {
+            [listed(derived::table(shape, Order::Rising, count, seed))]
+        }));
     }
     all
 }
@@ -184,19 +193,24 @@ fn touching(make: Make, count: usize, seed: u64) -> [Use; 3] {
     })
 }
 
-/// Makes the derived baselines and the listing of a table.
-fn products(shape: Shape, count: usize, seed: u64) -> [Use; 2] {
-    let table = derived::table(shape, count, seed);
-    let listed = Reply::of_listing(list(&table, &mut [0; TEXT]));
-    let made = |call, right| Use {
-        table: table.clone(),
-        call,
+/// Makes the derived baselines of a table.
+fn deriving(table: Vec<u8>) -> Use {
+    let right = Reply::of_derived(derive(&table, &mut [0; MOST_BYTES]));
+    Use {
+        table,
+        call: Call::Derive,
         right,
-    };
-    [
-        made(Call::Derive, Reply::new(1, count as u32)),
-        made(Call::Listing, listed),
-    ]
+    }
+}
+
+/// Makes the listing of a table.
+fn listed(table: Vec<u8>) -> Use {
+    let right = Reply::of_listing(list(&table, &mut [0; TEXT]));
+    Use {
+        table,
+        call: Call::Listing,
+        right,
+    }
 }
 
 #[cfg(test)]
@@ -204,7 +218,6 @@ mod tests {
     use super::super::COUNTS;
     use super::*;
     use crate::library::PLAIN;
-    use crate::listing::MOST_BYTES;
 
     /// Each call replies as its scene expects, and a repeated call does so again.
     #[test]

@@ -6,7 +6,7 @@ use crate::refusal::Refusal;
 use crate::touched::Touched;
 
 /// The bytes of a property that nothing mentions: nil, unknown.
-const UNKNOWN: Part = {
+pub const UNKNOWN: Part = {
     let mut part = [0; 24];
     part[0] = 1;
     part[1] = 4;
@@ -112,12 +112,12 @@ fn last_touch(passing: &[Record], instant: u32, property: usize) -> Option<usize
 
 /// Returns the life times and the properties of the permanent state of sound records, or 21, 20 or
 /// 22.
-pub fn state_at(kinds: [&[Record]; 2], instant: u32) -> Result<([u32; 2], [&Part; 8]), Refusal> {
+fn state_at(kinds: [&[Record]; 2], instant: u32) -> Result<([u32; 2], [&Part; 8]), Refusal> {
     Line::at(kinds, instant)?.state()
 }
 
 /// Returns the BASELINEs and the PERMDELTAs of sound records.
-pub fn by_kind(records: &[Record]) -> [&[Record]; 2] {
+fn by_kind(records: &[Record]) -> [&[Record]; 2] {
     let (baselines, changes) = records.split_at(records.partition_point(|one| one[0] == 1));
     [baselines, changes]
 }
@@ -154,6 +154,12 @@ pub fn parts_of(record: &Record) -> &[Part; 8] {
     parts.try_into().expect("192 bytes are eight properties")
 }
 
+/// Returns the eight properties of a record, for changing them.
+pub fn parts_of_mut(record: &mut Record) -> &mut [Part; 8] {
+    let (parts, _) = record[32..].as_chunks_mut();
+    parts.try_into().expect("192 bytes are eight properties")
+}
+
 /// Returns whether a record is counted and its period has the instant. A cancelled record has no
 /// begin, and "none" is above every instant.
 fn holds(record: &Record, instant: u32) -> bool {
@@ -161,7 +167,7 @@ fn holds(record: &Record, instant: u32) -> bool {
 }
 
 /// Returns the instant and the sequence number of a change as one number with the same order.
-pub fn turn(record: &Record) -> u64 {
+fn turn(record: &Record) -> u64 {
     u64::from(number(record, BEGIN)) << 32 | u64::from(number(record, 4))
 }
 
@@ -292,7 +298,7 @@ impl<'a> Line<'a> {
 }
 
 /// Writes a state as a record: the bytes before the times, the times, and the properties.
-pub fn write(record: &mut Record, key: [u8; 8], times: [u32; 4], parts: &[&Part; 8]) {
+fn write(record: &mut Record, key: [u8; 8], times: [u32; 4], parts: &[&Part; 8]) {
     record[..BEGIN].copy_from_slice(&key);
     for (at, time) in [BEGIN, END, LIFE_BEGIN, LIFE_END].into_iter().zip(times) {
         record[at..at + 4].copy_from_slice(&time.to_be_bytes());

@@ -5,7 +5,7 @@ use super::rules::{self, at, set};
 use super::themes::paper;
 use super::Script;
 use crate::fixtures::brief::{base, baseline, change, closing, opening};
-use crate::fixtures::rows::{apart, touching, unended};
+use crate::fixtures::rows::{apart, opened_twice, thrice, touching, unended};
 use crate::layout::{bytes_of, RECORD_BYTES};
 use crate::random::Random;
 use crate::record::{Side, NONE};
@@ -27,6 +27,8 @@ pub fn add(script: &mut Script) {
     tables_with_a_rest(script);
     many(script);
     too_many(script);
+    three_instants_each(script);
+    late_openings(script);
     script.title("derived: random histories");
     let lengths = [18, 18, 18, 18, 3].map(bytes_of);
     script.ask_histories(Product::Derived, 21, HISTORIES, &lengths);
@@ -190,6 +192,29 @@ fn too_many(script: &mut Script) {
     }
 }
 
+/// Adds BASELINEs with three change instants each, in order and in any order: a few, as many as give
+/// one record too many, and as many as give 768 change instants.
+fn three_instants_each(script: &mut Script) {
+    script.title("derived: three change instants of each BASELINE");
+    for (count, length) in [(4, LENGTH), (129, 65_536), (256, 65_536)] {
+        for is_rising in [true, false] {
+            let table = permanent(&thrice(count, is_rising));
+            ask_into(script, &table, length, 0x3c);
+            ask_into(script, &table, bytes_of(7) - 1, 0x3c);
+        }
+    }
+}
+
+/// Adds a second opening as the last of many changes.
+fn late_openings(script: &mut Script) {
+    script.title("derived: a late second opening");
+    for count in [2, 3, 60] {
+        let table = permanent(&opened_twice(count));
+        ask_into(script, &table, 65_536, 0x3d);
+        ask_into(script, &table, 0, 0x3d);
+    }
+}
+
 /// Adds random tables of either side, and spoiled ones.
 fn any_tables(script: &mut Script) {
     script.title("derived: random tables, sound and spoiled");
@@ -207,8 +232,9 @@ fn any_tables(script: &mut Script) {
 #[cfg(test)]
 mod tests {
     use super::*;
-    use crate::derived::derive;
+    use crate::derived::{change_instants, derive};
     use crate::refusal::{number_of, Refusal};
+    use crate::table::{Sides, Table};
 
     /// As many records as their names say.
     #[test]
@@ -252,14 +278,37 @@ mod tests {
         assert_eq!(number(&sound(), bytes_of(2) - 1), 23);
     }
 
+    /// Returns the first words of the answers of a group.
+    fn answers(group: fn(&mut Script)) -> Vec<String> {
+        let mut script = Script::default();
+        group(&mut script);
+        let answers = script.answers();
+        let word = |line: &str| line.split(' ').next().unwrap_or_default().to_string();
+        answers.lines().map(word).collect()
+    }
+
     /// Two anchors come before too many records.
     #[test]
     fn anchors_come_before_too_many() {
-        let mut script = Script::default();
-        too_many(&mut script);
-        let answers = script.answers();
         let expected = ["23", "23", "21", "5", "4", "23"].map(|number| [number; 3]);
-        let expected: Vec<&str> = expected.concat();
-        assert_eq!(answers.lines().collect::<Vec<_>>(), expected);
+        assert_eq!(answers(too_many), expected.concat());
+        assert_eq!(answers(late_openings), ["21"; 6]);
+    }
+
+    /// Two records for each BASELINE but one, of three change instants.
+    #[test]
+    fn three_instants_give_two_records() {
+        let few = ["derived", "23", "derived", "23"];
+        let expected = [&few[..], &["23"; 8]].concat();
+        assert_eq!(answers(three_instants_each), expected);
+        for is_rising in [true, false] {
+            let bytes = permanent(&thrice(256, is_rising));
+            let table = Table::read(&bytes, Sides::Permanent).unwrap();
+            assert_eq!(change_instants(&table).len(), 768);
+            let begins = table.records.values().map(|one| one.head.period.begin);
+            assert_eq!(begins.is_sorted(), is_rising);
+            let output = &mut [0; bytes_of(7)];
+            assert_eq!(derive(&permanent(&thrice(4, is_rising)), output), Ok(7));
+        }
     }
 }

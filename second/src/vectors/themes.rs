@@ -1,8 +1,8 @@
 //! Permanent histories by theme, to derive baselines from.
 
-use crate::fixtures::brief::{
-    base, baseline, cancelling, change, closing, from_to, opening, SEQUENCES,
-};
+use crate::fixtures::brief::{base, baseline, cancelling, change, closing, from_to};
+use crate::fixtures::brief::{mention_only, opening, SEQUENCES};
+use crate::fixtures::rows::opened_twice;
 use crate::fixtures::{code, mentions, nil, sound_parts, unmentioned, Case, Time};
 use crate::record::NONE;
 use crate::tables::permanent;
@@ -44,11 +44,18 @@ pub fn themes() -> Vec<Theme> {
         theme("equal", "equal neighbours", equal()),
         theme("lives", "life ends given by BASELINEs", lives()),
         theme("withdrawn", "withdrawn stretches", withdrawn()),
+        theme("beyond", "life ends after the end of a BASELINE", beyond()),
         theme("openings", "opening PERMDELTAs", openings()),
+        theme("hidden", "openings that a BASELINE hides", hidden()),
         theme("cancelled", "cancelled records", cancelled()),
         theme("last", "the first and the last instant", edges()),
         theme("forms", "properties of every form", forms()),
         theme("turns", "equal instants, by sequence number", turns()),
+        theme(
+            "meeting",
+            "begins, ends and changes of one instant",
+            meeting(),
+        ),
         theme("anchors", "two anchors", anchors()),
     ]
 }
@@ -187,6 +194,27 @@ fn withdrawn() -> Vec<Vec<Case>> {
     histories
 }
 
+/// Makes BASELINEs that end, or are closed, before their life ends: where another holds, where an
+/// opening is the anchor, or where there is no state. The life end of a cancelled one is no change
+/// instant.
+fn beyond() -> Vec<Vec<Case>> {
+    let mut histories = vec![];
+    for life_end in [205, 210, 250, 300, 350] {
+        for end in [200, NONE] {
+            let first = baseline(1, [100, end, 100, life_end], 1);
+            let next = [from_to(2, 210, 300), opening(5, 150, 50)];
+            histories.push(vec![first.clone(), next[0].clone()]);
+            histories.push([&[first.clone()], &next[..]].concat());
+            histories.push([&[first], &next[..], &[change(6, life_end, 60)]].concat());
+        }
+    }
+    let ended = |sequence, begin| baseline(sequence, [begin, NONE, NONE, 300], 1);
+    histories.push(vec![ended(1, 100), ended(2, 150), ended(3, 200)]);
+    histories.push(vec![ended(1, 100), from_to(2, 150, NONE), ended(3, 250)]);
+    histories.push(vec![cancelling(&ended(1, 100), 1), from_to(2, 150, NONE)]);
+    histories
+}
+
 /// Makes openings alone, with changes about them, before, in and after BASELINEs.
 fn openings() -> Vec<Vec<Case>> {
     let opened = opening(5, 100, 1);
@@ -217,6 +245,28 @@ fn openings() -> Vec<Vec<Case>> {
         from_to(1, 150, NONE),
         late,
     ]);
+    histories
+}
+
+/// Makes an opening before, at the begin of or in a BASELINE, with changes of both lines; and a
+/// second one that no gap shows.
+fn hidden() -> Vec<Vec<Case>> {
+    let (short, long) = (from_to(1, 100, 200), from_to(1, 100, NONE));
+    let ended = baseline(1, [100, NONE, 100, 180], 1);
+    let (second, late) = (opening(6, 160, 60), mention_only(change(8, 190, 0), 7, 8));
+    let mut histories = vec![];
+    for instant in [50, 100, 150] {
+        let opened = opening(5, instant, 50);
+        let two = [opened.clone(), second.clone()];
+        let changes = [change(7, 160, 7), late.clone()];
+        histories.push(vec![short.clone(), opened.clone()]);
+        histories.push([&[short.clone(), opened.clone()], &changes[..]].concat());
+        histories.push(vec![short.clone(), opened, closing(9, 170), late.clone()]);
+        histories.push([&[long.clone()], &two[..], &changes].concat());
+        histories.push([&[long.clone(), from_to(2, 180, NONE)], &two[..]].concat());
+        histories.push([&[short.clone(), from_to(2, 200, NONE)], &two[..]].concat());
+        histories.push([&[ended.clone()], &two[..], &[late.clone()]].concat());
+    }
     histories
 }
 
@@ -290,7 +340,38 @@ fn turns() -> Vec<Vec<Case>> {
     histories
 }
 
-/// Makes two anchors for long, for a second, at the end alone, and two openings.
+/// Makes changes at the begin and at the end of a BASELINE, of every sort, where its life may end
+/// too and another one may begin; with an earlier opening and without.
+fn meeting() -> Vec<Vec<Case>> {
+    let ends = [[200, 200], [200, NONE], [NONE, 200], [NONE, NONE]];
+    let firsts = ends.map(|[end, life_end]| baseline(1, [100, end, 100, life_end], 1));
+    let (next, opened) = (from_to(2, 200, NONE), opening(1, 50, 5));
+    let others = [
+        vec![],
+        vec![next.clone()],
+        vec![opened.clone()],
+        vec![next, opened],
+    ];
+    let mut histories = vec![];
+    for (first, instant) in firsts.iter().flat_map(|first| [(first, 100), (first, 200)]) {
+        let part = mention_only(change(3, instant, 0), 7, 3);
+        for other in &others {
+            let history = [&[first.clone()], &other[..]].concat();
+            for one in [change(4, instant, 4), closing(4, instant)] {
+                histories.push([&history[..], &[one.clone()]].concat());
+                histories.push([&history[..], &[one, part.clone()]].concat());
+            }
+        }
+        for other in &others[..2] {
+            let changes = [opening(4, instant, 4), change(5, instant, 6), part.clone()];
+            histories.push([&[first.clone()], &other[..], &changes].concat());
+        }
+    }
+    histories
+}
+
+/// Makes two anchors for long, for a second, at the end alone, and two openings: at once, late, and
+/// hidden by a BASELINE until it ends.
 fn anchors() -> Vec<Vec<Case>> {
     let (one, opened) = (from_to(1, 100, 200), opening(5, 100, 1));
     vec![
@@ -305,9 +386,20 @@ fn anchors() -> Vec<Vec<Case>> {
         vec![opened.clone(), opening(4, LAST, 2)],
         vec![opened.clone(), opening(6, 150, 2), one.clone()],
         vec![opened.clone(), opening(6, 150, 2), closing(7, 150)],
+        opened_twice(8),
+        vec![one.clone(), opening(5, 120, 1), opening(6, 150, 2)],
+        vec![one.clone(), opening(5, 50, 1), opening(6, 150, 2)],
+        vec![one.clone(), opening(5, 50, 1), opening(6, 200, 2)],
+        [&two_in(&one)[..], &[from_to(2, 250, NONE)]].concat(),
+        [&two_in(&base())[..], &[from_to(2, 150, 160)]].concat(),
         vec![one.clone(), from_to(2, 150, 151), closing(7, 120)],
         vec![one, from_to(2, 200, 302), from_to(3, 300, 301), opened],
     ]
+}
+
+/// Makes a BASELINE with two openings in it.
+fn two_in(baseline: &Case) -> [Case; 3] {
+    [baseline.clone(), opening(5, 120, 1), opening(6, 130, 2)]
 }
 
 #[cfg(test)]
