@@ -1,16 +1,15 @@
 -- One turn of a sweep, by the times that it carries: an event is passed, or a change instant is done. Assumes nothing.
 use Prim.Native.Nat.{ℕ, suc, _+_, _≤_, _<_}
-use mathlib.Core.Path.{_≡_, refl, sym, ap, _∙_, subst}
-use mathlib.Core.Bool.{Bool, true, false, cond, not, _&&_}
+use mathlib.Core.Path.{_≡_, refl, sym, ap, _∙_}
+use mathlib.Core.Bool.{true, false, cond, not, _&&_}
 use mathlib.Core.List.{List, [], _∷_, _++_}
-use mathlib.Core.Logic.{⊎-elim}
 use native.Mathlib.Omega.{arith}
 use lib.ListN.{length, drop, getD, drop-of-length-le}
 use lib.Dec.{ltb}
 use borrow.Author.Tests.{not-true}
 use Rattle.laws.proofs.Tests.{tests, pick-ind, by-test, and-both}
 use Rattle.octets.specs.Bytes.{Bytes}
-use Rattle.numbers.specs.Numbers.{noInstant, none, isNone, before, sameInstant}
+use Rattle.numbers.specs.Numbers.{noInstant, isNone, before, sameInstant}
 use Rattle.numbers.specs.declared.Instant.{Instant}
 use Rattle.numbers.proofs.Facts.{none-false, same-true}
 use Rattle.events.specs.Order.{placeOf}

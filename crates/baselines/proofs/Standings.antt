@@ -1,5 +1,4 @@
 -- What the answer to the question for a state tells of the standing there. Assumes nothing.
-use Prim.Native.Nat.{ℕ}
 use mathlib.Core.Path.{_≡_, refl, sym, ap}
 use Rattle.laws.proofs.Replies.{refusal-apart, refusal-tells}
 use Rattle.slice.specs.declared.check.Refusal.{Refusal}

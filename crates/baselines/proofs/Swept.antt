@@ -29,7 +29,7 @@ use Rattle.history.specs.Changes.{changesBy, changeInstants, nextOf}
 use Rattle.history.specs.Derived.{twoAnchors}
 use Rattle.history.specs.Permanent.{permanentAt}
 use Rattle.history.specs.Sweep.{seen, tellsTwo, tells, tellsNext, isCounted, comesBehind, Falling, Passed}
-use Rattle.history.proofs.Changes.{Changing, justAfter, later, begin-changing, life-changing, delta-changing, changing-given}
+use Rattle.history.proofs.Changes.{justAfter, later, begin-changing, life-changing, delta-changing, changing-given}
 use Rattle.history.proofs.Changes.{changes-from, changes-below, later-next, later-least, walk-below}
 use Rattle.history.proofs.Sweep.{state-told, two-told, next-told}
 use Rattle.state.specs.Asking.{slicesOf}

@@ -4,7 +4,7 @@ use mathlib.Core.Path.{_≡_, refl, sym, ap, _∙_}
 use mathlib.Core.Bool.{Bool, true, false, cond, not, _&&_, _||_, and-false}
 use mathlib.Core.List.{List, [], _∷_}
 use lib.ListN.{length}
-use lib.Dec.{eqb, ltb, leb}
+use lib.Dec.{eqb, leb}
 use Rattle.laws.proofs.Tests.{tests, by-test, and-both}
 use Rattle.numbers.specs.Numbers.{noInstant, isNone, given, before, atMost, sameInstant}
 use Rattle.numbers.specs.declared.Instant.{Instant}

@@ -5,7 +5,7 @@ use mathlib.Core.List.{List, [], _∷_, _++_, map}
 use mathlib.Core.Bool.{Bool, true, false, _&&_}
 use mathlib.Core.Logic.{_⊎_, inl, inr, ⊎-elim, _↔_}
 use native.Mathlib.Omega.{arith}
-use lib.ListN.{length, drop, getD}
+use lib.ListN.{length, getD}
 use Rattle.laws.specs.Lists.{kept, joined}
 use Rattle.laws.specs.Keyed.{In, Rising}
 use Rattle.laws.proofs.Tests.{pick-ind, by-test}
@@ -47,13 +47,6 @@ module _ {A : Type 0} (f : A → Bool) (d : A) where
   kept-one (x ∷ xs) (suc i) h y others =
       rw (others 0 (omega arith) (λ e. omega arith))
       (kept-one xs i (omega arith) y (λ j k n. others (suc j) (omega arith) (λ e. n (omega arith))))
-
-  -- none of the first n places passes
-  pub kept-behind : (n : ℕ) (l : List A) → ((j : ℕ) → j < n → j < length l → f (getD l j d) ≡ false) → kept f l ≡ kept f (drop n l)
-  kept-behind zero l h = refl
-  kept-behind (suc n) [] h = refl
-  kept-behind (suc n) (x ∷ xs) h =
-      rw (h 0 (omega arith) (omega arith)) (kept-behind n xs (λ j k m. h (suc j) (omega arith) (omega arith)))
 
 -- what is kept of a rising list rises
 pub kept-rising : {R K : Type 0} (key : R → K) (less same : K → K → Bool) (f : R → Bool) (l : List R) → Rising key less same l

@@ -6,7 +6,7 @@ use mathlib.Core.Bool.{Bool, true, false, cond, not, _&&_, _||_}
 use mathlib.Core.List.{List, [], _∷_}
 use mathlib.Core.Option.{Option, none as nobody, some}
 use lib.Dec.{eqb, ltb}
-use Rattle.laws.specs.Keyed.{In, Rising}
+use Rattle.laws.specs.Keyed.{In}
 use Rattle.laws.specs.Orders.{lexLess}
 use Rattle.numbers.specs.Numbers.{none, given, before, atMost, sameInstant}
 use Rattle.numbers.specs.declared.Instant.{Instant}

@@ -24,7 +24,7 @@ use Rattle.baselines.specs.declared.counting.Counted.the-variants.{Recor
 use Rattle.baselines.specs.declared.sweeping.Sweep.{Sweep}
 use Rattle.baselines.proofs.Events.{eventful}
 use Rattle.baselines.proofs.Swept.{eventsOf}
-use Rattle.baselines.proofs.Going.{Going, stateAt, going-start, going-few, going-given, going-within, going-record, going-gone}
+use Rattle.baselines.proofs.Going.{Going, stateAt, going-start, going-few, going-within, going-record, going-gone}
 use Rattle.baselines.proofs.Going.{going-two, going-on, going-past, going-more, going-end}
 use borrow.Author.Needs.{needs}
 use Rattle.baselines.proofs.counting.count_all.Statement.{statement}

@@ -1,6 +1,6 @@
 -- `baselines::drawing::draw_known` meets its contract: the line that is at hand says the state. Assumes nothing.
 use mathlib.Core.Path.{_≡_, sym, ap, _∙_, subst}
-use mathlib.Core.Bool.{true, false}
+use mathlib.Core.Bool.{true}
 use Rattle.numbers.specs.Numbers.{before}
 use Rattle.history.specs.State.{State}
 use Rattle.history.specs.Sweep.{Seen}

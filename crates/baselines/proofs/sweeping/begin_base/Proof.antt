@@ -1,6 +1,4 @@
 -- `baselines::sweeping::begin_base` meets its contract. Assumes nothing.
-use mathlib.Core.Path.{_≡_, ap}
-use Rattle.slice.specs.Record.{periodOf, lifeOf}
 use Rattle.history.specs.Sweep.{meets}
 use Rattle.baselines.specs.Sweeping.{begunWith}
 use borrow.Author.Needs.{needs}

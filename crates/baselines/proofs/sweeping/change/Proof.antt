@@ -1,13 +1,12 @@
 -- `baselines::sweeping::change` meets its contract: each line's life end, and how many have opened. Assumes nothing.
 use Prim.Native.Nat.{_+_, _≤_}
 use mathlib.Core.Path.{_≡_, sym, ap, _∙_}
-use mathlib.Core.Bool.{true, false, not, cond}
+use mathlib.Core.Bool.{true, false, cond}
 use mathlib.Core.Logic.{⊎-elim}
 use native.Mathlib.Omega.{arith}
 use lib.Dec.{eqb}
 use borrow.Author.Tests.{eq-eqb, ne-eqb, not-true, not-false}
 use Rattle.numbers.specs.Numbers.{isNone, sameInstant}
-use Rattle.numbers.specs.declared.Instant.{Instant}
 use Rattle.slice.specs.Record.{lifeOf}
 use Rattle.slice.specs.declared.record.Life.{Life}
 use Rattle.history.specs.State.{newTime}

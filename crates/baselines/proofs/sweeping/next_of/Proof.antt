@@ -1,6 +1,6 @@
 -- `baselines::sweeping::next_of` meets its contract. Assumes nothing.
 use mathlib.Core.Path.{_≡_, sym, _∙_}
-use mathlib.Core.Bool.{true, false, not, _&&_}
+use mathlib.Core.Bool.{not, _&&_}
 use Rattle.numbers.specs.Numbers.{before}
 use Rattle.baselines.specs.Sweeping.{nextWith}
 use borrow.Author.Needs.{needs}

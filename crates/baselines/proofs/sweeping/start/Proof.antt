@@ -1,5 +1,4 @@
 -- `baselines::sweeping::start` meets its contract. Assumes nothing.
-use mathlib.Core.Path.{refl}
 use Rattle.numbers.specs.Numbers.{none}
 use borrow.Author.Needs.{needs}
 use Rattle.baselines.proofs.sweeping.start.Statement.{statement}
