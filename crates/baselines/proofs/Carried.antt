@@ -6,10 +6,9 @@ use mathlib.Core.Bool.{Bool, true, false, cond, not}
 use mathlib.Core.Logic.{inl, inr, ⊎-elim}
 use native.Mathlib.Nat.{zero-mul, suc-mul}
 use native.Mathlib.Omega.{arith}
-use lib.ListN.{length, take, drop, getD, replicate, length-append, length-replicate, replicate-append-replicate}
+use lib.ListN.{length, getD, replicate, length-append, length-replicate, replicate-append-replicate}
 use lib.Dec.{eqb, ltb}
 use borrow.Author.Tests.{eq-eqb, ne-eqb}
-use lib.Seq.{take-length}
 use Rattle.laws.specs.Lists.{joined}
 use Rattle.laws.specs.Keyed.{In}
 use Rattle.laws.proofs.Tests.{tests}
@@ -26,16 +25,11 @@ use Rattle.history.specs.Source.{mentions}
 use Rattle.history.specs.Parts.{tells}
 use Rattle.state.proofs.Slices.{propertyAt, view-property}
 use Rattle.state.proofs.Views.{tells-property}
-use Rattle.state.proofs.Pasting.{pasted-all}
 use Rattle.state.specs.Written.{nilUnknown, propertyBytes}
 use Rattle.baselines.specs.Laid.{partFor, recordFor}
 use Rattle.baselines.specs.Steps.{drawnRecord}
 use Rattle.baselines.specs.Carried.{tailOf, Carries, unknownState}
 use Rattle.baselines.proofs.Pasted.{over-middle, filled-by}
-
--- ---- a record, copied as it is
-pub copied-all : (d r : List ℕ) → length d ≡ length r → pasted d 0 (take (length r) (drop 0 r)) ≡ r
-copied-all d r e = ap (pasted d 0) (take-length r) ∙ pasted-all d r e
 
 -- ---- properties, the first n of them replaced where they are mentioned
 abbrev overTo : ℕ → List Property → List Property → List Property

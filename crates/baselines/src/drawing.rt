@@ -14,7 +14,6 @@ ghost use Rattle.baselines.specs.Deriving.{derivedRecords};
 use crate::counting::head;
 use crate::counting::pass;
 use crate::line::apply;
-use crate::line::copy;
 use crate::line::put_unknown;
 use crate::sweeping::Sweep;
 use crate::sweeping::is_based;
@@ -60,7 +59,7 @@ fn draw(
         ⌜ ((s : State) → Carries stride s (now (line .entry))
         → now («record» .exit) ≡ drawnRecord stride (sequence .0) begin end s) ⌝ }
 {
-    copy(record, line, 0, line.len());
+    put(record, 0, line);
     put_front(record, sequence, begin, end);
 }
 
@@ -97,7 +96,7 @@ fn carry(base: &mut [u8], line: &mut [u8], record: &[u8], stride: usize, s: Swee
         (now (line .exit)) ⌝ }
 {
     if byte(record, 0) == BASELINE {
-        copy(base, record, 0, record.len());
+        put(base, 0, record);
         return;
     }
     let begin = s.begin;

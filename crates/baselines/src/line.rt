@@ -51,7 +51,7 @@ fn copy8(record: &mut [u8], other: &[u8], at: usize)
 }
 
 // Copies n bytes from one place on, eight at a time.
-pub(crate) fn copy(record: &mut [u8], other: &[u8], at: usize, n: usize)
+fn copy(record: &mut [u8], other: &[u8], at: usize, n: usize)
     requires { ⌜ (at + n ≤ length (now «record»)) × (at + n ≤ length (now other)) ⌝ }
     ensures { λ _.
         ⌜ now («record» .exit) ≡ pasted (now («record» .entry)) at (take n (drop at (now (other .entry)))) ⌝ }

@@ -16,7 +16,7 @@ use Rattle.state.proofs.Slices.{view-eight}
 use Rattle.baselines.specs.Sweeping.{timesOf}
 use Rattle.baselines.specs.Carried.{Carries, Turns, Lines, seenWith}
 use Rattle.baselines.specs.declared.sweeping.Sweep.{Sweep}
-use Rattle.baselines.proofs.Carried.{copied-all}
+use Rattle.state.proofs.Pasting.{pasted-all}
 use Rattle.baselines.proofs.Lines.{lines-begun, base-applied, base-kept, line-applied, line-kept, lines-changed}
 use borrow.Author.Needs.{needs}
 use Rattle.baselines.proofs.drawing.carry.Statement.{statement}
@@ -37,7 +37,7 @@ returns c =
     let k = eq-eqb (viewOf (a .stride) r .kind) baseline (sym (y .byte .ensures) ∙ p .before .before .if1 .taken) in
     λ v e same counted own h.
     subst (λ (l : List ℕ). Lines (a .stride) (seenWith v (viewOf (a .stride) r)) (a .t) l (a .line .now))
-    (sym (p .copy .ensures ∙ copied-all (a .base .now) r (s .pre .0 ∙ sym (s .pre .1 .1))))
+    (sym (p .put .ensures ∙ pasted-all (a .base .now) r (s .pre .0 ∙ sym (s .pre .1 .1))))
     (lines-begun (a .stride) v (viewOf (a .stride) r) (a .t) (a .base .now) (a .line .now) r k counted own h)
 
 -- ---- a PERMDELTA

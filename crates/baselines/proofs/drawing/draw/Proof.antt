@@ -4,7 +4,8 @@ use Prim.Native.Nat.{ℕ}
 use mathlib.Core.Path.{sym, ap, _∙_}
 use mathlib.Core.List.{List, _∷_, _++_}
 use Rattle.octets.specs.Writing.{bytesOf, pasted}
-use Rattle.baselines.proofs.Carried.{copied-all, carried-drawn}
+use Rattle.state.proofs.Pasting.{pasted-all}
+use Rattle.baselines.proofs.Carried.{carried-drawn}
 use borrow.Author.Needs.{needs}
 use Rattle.baselines.proofs.drawing.draw.Statement.{statement}
 use Rattle.baselines.proofs.drawing.draw.Tie as tie
@@ -19,7 +20,7 @@ returns c =
     k .put-front .ensures
     ∙ ap (λ (d : List ℕ). pasted d 0
     (1 ∷ 0 ∷ 0 ∷ 0 ∷ bytesOf 4 (a .sequence .0) ++ (bytesOf 4 (a .begin .0) ++ bytesOf 4 (a .end .0))))
-    (p .copy .ensures ∙ copied-all (a .«record» .now) (a .line .now) (start .pre .0 ∙ sym (start .pre .1)))
+    (p .put .ensures ∙ pasted-all (a .«record» .now) (a .line .now) (start .pre .0 ∙ sym (start .pre .1)))
     ∙ carried-drawn (a .stride) s (a .line .now) h (a .sequence .0) (a .begin) (a .end)
 
 pub draw-spec : {M : Type 1} → statement M
