@@ -6,7 +6,8 @@ use mathlib.Core.Bool.{Bool, true, false, cond, not}
 use mathlib.Core.Logic.{inl, inr, ⊎-elim}
 use native.Mathlib.Nat.{zero-mul, suc-mul}
 use native.Mathlib.Omega.{arith}
-use lib.ListN.{length, getD, replicate, length-append, length-replicate, replicate-append-replicate}
+use lib.ListN.{length, take, drop, getD, replicate, length-append, length-replicate, replicate-append-replicate, take-append-drop}
+use lib.Seq.{length-take-le, take-at, take-append-le, drop-append-le}
 use lib.Dec.{eqb, ltb}
 use borrow.Author.Tests.{eq-eqb, ne-eqb}
 use Rattle.laws.specs.Lists.{joined}
@@ -14,6 +15,8 @@ use Rattle.laws.specs.Keyed.{In}
 use Rattle.laws.proofs.Tests.{tests}
 use Rattle.octets.specs.Bytes.{byteOf}
 use Rattle.octets.specs.Writing.{bytesOf, pasted}
+use Rattle.octets.proofs.Writing.{pasted-whole, pasted-length}
+use Rattle.state.proofs.Pasting.{pasted-all}
 use Rattle.property.specs.Eight.{mentioned}
 use Rattle.numbers.specs.Numbers.{noInstant, isNone}
 use Rattle.numbers.specs.declared.Instant.{Instant}
@@ -30,6 +33,47 @@ use Rattle.baselines.specs.Laid.{partFor, recordFor}
 use Rattle.baselines.specs.Steps.{drawnRecord}
 use Rattle.baselines.specs.Carried.{tailOf, Carries, unknownState}
 use Rattle.baselines.proofs.Pasted.{over-middle, filled-by}
+
+-- ---- the record of a line, in front of what goes nowhere
+pasted-front : (a x c : List ℕ) (at : ℕ) → at + length x ≤ length a → pasted (a ++ c) at x ≡ pasted a at x ++ c
+pasted-front a x c at h =
+    pasted-whole (a ++ c) x at (omega (arith, length-append a c))
+    ∙ (λ i. take-append-le at a c (omega arith) i ++ (x ++ drop-append-le (at + length x) a c h i))
+    ∙ ap (λ (l : List ℕ). take at a ++ l) (sym (append-assoc x (drop (at + length x) a) c))
+    ∙ sym (append-assoc (take at a) (x ++ drop (at + length x) a) c)
+    ∙ ap (λ (l : List ℕ). l ++ c) (sym (pasted-whole a x at h))
+
+take-pasted : (n : ℕ) (d x : List ℕ) (at : ℕ) → at + length x ≤ n → n ≤ length d → take n (pasted d at x) ≡ pasted (take n d) at x
+take-pasted n d x at h k =
+    let l : length (take n d) ≡ n = length-take-le n d k in
+    let whole : take n d ++ drop n d ≡ d = take-append-drop n d in
+    ap (λ (c : List ℕ). take n (pasted c at x)) (sym whole)
+    ∙ ap (take n) (pasted-front (take n d) x (drop n d) at (omega arith))
+    ∙ take-at (pasted (take n d) at x) (drop n d) n (pasted-length (take n d) x at ∙ l)
+
+-- what is written behind it leaves it as it was
+pub take-behind : (n : ℕ) (d x : List ℕ) → n + length x ≤ length d → take n (pasted d n x) ≡ take n d
+take-behind n d x h =
+    ap (take n) (pasted-whole d x n h) ∙ take-at (take n d) (x ++ drop (n + length x) d) n (length-take-le n d (omega arith))
+
+-- a record that is written over it
+pub record-first : (stride : ℕ) (d r : List ℕ) → length r ≡ recordSize stride → recordSize stride ≤ length d
+    → take (recordSize stride) (pasted d 0 r) ≡ r
+record-first stride d r e h =
+    take-pasted (recordSize stride) d r 0 (omega arith) h
+    ∙ pasted-all (take (recordSize stride) d) r (length-take-le (recordSize stride) d h ∙ sym e)
+
+-- a life time that is written into it
+pub take-time : (stride : ℕ) (b : Bool) (d r x : List ℕ) (at : ℕ) → at + length x ≤ recordSize stride → recordSize stride ≤ length r
+    → d ≡ cond b r (pasted r at x)
+    → take (recordSize stride) d ≡ cond b (take (recordSize stride) r) (pasted (take (recordSize stride) r) at x)
+take-time stride true d r x at h k e = ap (take (recordSize stride)) e
+take-time stride false d r x at h k e = ap (take (recordSize stride)) e ∙ take-pasted (recordSize stride) r x at h k
+
+-- a property that is written into it
+pub take-property : (stride : ℕ) (d x : List ℕ) (at : ℕ) → at + length x ≤ recordSize stride → recordSize stride ≤ length d
+    → take (recordSize stride) (pasted d at x) ≡ pasted (take (recordSize stride) d) at x
+take-property stride d x at = take-pasted (recordSize stride) d x at
 
 -- ---- properties, the first n of them replaced where they are mentioned
 abbrev overTo : ℕ → List Property → List Property → List Property

@@ -5,7 +5,7 @@ use mathlib.Core.Bool.{true, cond}
 use mathlib.Core.List.{List, [], _∷_, _++_, append-nil}
 use native.Mathlib.Omega.{arith}
 use lib.ListN.{length, take, drop, length-append}
-use lib.Seq.{drop-drop}
+use lib.Seq.{length-take-le, drop-drop}
 use borrow.Rule.Slice.PartMut.{putMid}
 use Rattle.laws.specs.Lists.{joined}
 use Rattle.laws.proofs.Tests.{tests, by-test}
@@ -20,7 +20,7 @@ use Rattle.history.specs.Sweep.{Seen}
 use Rattle.history.proofs.Changes.{later}
 use Rattle.state.specs.Asking.{slicesOf}
 use Rattle.baselines.specs.Sweeping.{timesOf, isKnown}
-use Rattle.baselines.specs.Carried.{Carries, Lines}
+use Rattle.baselines.specs.Carried.{Carries, lineSize, recordOf, Lines}
 use Rattle.baselines.specs.Deriving.{derivedRecords}
 use Rattle.baselines.specs.Steps.{drawnRecord}
 use Rattle.baselines.proofs.Carried.{carried-drawn}
@@ -41,13 +41,16 @@ drawn-long stride s r c n begin end = ap length (sym (carried-drawn stride s r c
 
 -- that of the state that is known is as long as both
 pub known-long : (stride : ℕ) (v : Seen) (t : Instant) (base line : List ℕ) → Lines stride v t base line → isKnown (timesOf v) t ≡ true
-    → length base ≡ recordSize stride → length line ≡ recordSize stride → (n : ℕ) (end : Instant)
+    → length base ≡ lineSize stride → length line ≡ lineSize stride → (n : ℕ) (end : Instant)
     → length (drawnRecord stride n t end (cond (before t (v .end)) (v .base) (v .line))) ≡ recordSize stride
 known-long stride v t base line l k h g n end =
+    let long : (d : List ℕ) → length d ≡ lineSize stride → length (recordOf stride d) ≡ recordSize stride =
+    λ d e. length-take-le (recordSize stride) d (omega (arith, e)) in
     by-test (before t (v .end))
-    (λ b. rw b (drawn-long stride (v .base) base (l .based b) n t end ∙ h))
+    (λ b. rw b (drawn-long stride (v .base) (recordOf stride base) (l .based b) n t end ∙ long base h))
     (λ b. rw b
-    (drawn-long stride (v .line) line (subst (λ (s : State). Carries stride s line) (known-line v t k b) (l .opened)) n t end ∙ g))
+    (drawn-long stride (v .line) (recordOf stride line)
+    (subst (λ (s : State). Carries stride s (recordOf stride line)) (known-line v t k b) (l .opened)) n t end ∙ long line g))
 
 -- ---- records
 joined-more : (done : List (List ℕ)) (r : List ℕ) → joined (done ++ (r ∷ [])) ≡ joined done ++ r

@@ -15,7 +15,7 @@ use Rattle.slice.specs.Record.{baseline, permdelta, Property, unmentioned, says
 use Rattle.history.specs.Counted.{counts}
 use Rattle.history.specs.State.{State, started, newer, over, newTime, applied}
 use Rattle.history.specs.Sweep.{Seen, begun, changed, isCounted}
-use Rattle.baselines.specs.Carried.{Carries, Turns, unknownState, lineNow, Lines, seenWith}
+use Rattle.baselines.specs.Carried.{Carries, recordOf, Turns, unknownState, lineNow, Lines, seenWith}
 
 -- ---- a slice that opens, applied to the unknown: it starts its own state
 newer-unknown : (v : Property) → newer v unmentioned ≡ v
@@ -78,17 +78,17 @@ module _ (stride : ℕ) (v : Seen) (x : Slice) where
       (or-either (counts baseline x) (counts permdelta x) c)
 
   pub lines-begun : (t : Instant) (base line r : List ℕ) → eqb (x .kind) baseline ≡ true → isCounted x ≡ true
-      → (counts baseline x ≡ true → Carries stride (started x) r)
+      → (counts baseline x ≡ true → Carries stride (started x) (recordOf stride r))
       → Lines stride v t base line → Lines stride (seenWith v x) t r line
   unfolding begun
   lines-begun t base line r k c h l = rw k record { based = λ _. h (counted-base c k); opened = l .opened }
 
   -- ---- a PERMDELTA: the line of the BASELINE that holds, unless it begins there too
   module _ (t : Instant) (same : x .period .begin ≡ t) (base : List ℕ)
-      (h : before t (v .end) ≡ true → Carries stride (v .base) base) where
+      (h : before t (v .end) ≡ true → Carries stride (v .base) (recordOf stride base)) where
     pub base-applied : (base′ : List ℕ) → (before t (v .end) && not (sameInstant (v .begin) t)) ≡ true
         → Turns stride (λ s. applied s x) base base′
-        → before t (changed v x .end) ≡ true → Carries stride (changed v x .base) base′
+        → before t (changed v x .end) ≡ true → Carries stride (changed v x .base) (recordOf stride base′)
     unfolding changed
     base-applied base′ e f b =
         let (p, q) = and-both (before t (v .end)) (not (sameInstant (v .begin) t)) e in
@@ -97,7 +97,7 @@ module _ (stride : ℕ) (v : Seen) (x : Slice) where
         rw z (f (v .base) (h p))
 
     pub base-kept : (before t (v .end) && not (sameInstant (v .begin) t)) ≡ false
-        → before t (changed v x .end) ≡ true → Carries stride (changed v x .base) base
+        → before t (changed v x .end) ≡ true → Carries stride (changed v x .base) (recordOf stride base)
     unfolding changed
     base-kept e b =
         let z : sameInstant (v .begin) (x .period .begin) ≡ true =
@@ -107,19 +107,20 @@ module _ (stride : ℕ) (v : Seen) (x : Slice) where
   -- the line of the first opening, which it may be
   pub line-applied : (line line′ : List ℕ) → length (x .properties) ≡ 8 → (ltb 0 (v .openings) || given (x .life .begin)) ≡ true
       → Turns stride (λ s. applied s x) line line′
-      → Carries stride (lineNow v) line → Carries stride (lineNow (changed v x)) line′
+      → Carries stride (lineNow v) (recordOf stride line) → Carries stride (lineNow (changed v x)) (recordOf stride line′)
   unfolding changed
   line-applied line line′ n e f h =
-      subst (λ (s : State). Carries stride s line′) (on x n (v .openings) (given (x .life .begin)) (v .line) e) (f (lineNow v) h)
+      subst (λ (s : State). Carries stride s (recordOf stride line′)) (on x n (v .openings) (given (x .life .begin)) (v .line) e) (f (lineNow v) h)
 
   pub line-kept : (line : List ℕ) → (ltb 0 (v .openings) || given (x .life .begin)) ≡ false
-      → Carries stride (lineNow v) line → Carries stride (lineNow (changed v x)) line
+      → Carries stride (lineNow v) (recordOf stride line) → Carries stride (lineNow (changed v x)) (recordOf stride line)
   unfolding changed
   line-kept line e h =
-      subst (λ (s : State). Carries stride s line) (off x (v .openings) (given (x .life .begin)) (v .line) e) h
+      subst (λ (s : State). Carries stride s (recordOf stride line)) (off x (v .openings) (given (x .life .begin)) (v .line) e) h
 
   -- both
   pub lines-changed : (t : Instant) (base line : List ℕ) → eqb (x .kind) baseline ≡ false
-      → (before t (changed v x .end) ≡ true → Carries stride (changed v x .base) base) → Carries stride (lineNow (changed v x)) line
+      → (before t (changed v x .end) ≡ true → Carries stride (changed v x .base) (recordOf stride base))
+      → Carries stride (lineNow (changed v x)) (recordOf stride line)
       → Lines stride (seenWith v x) t base line
   lines-changed t base line k b l = rw k record { based = b; opened = l }

@@ -1,16 +1,16 @@
 -- A record that says a state, and the records of both lines of a sweep. No public promise cites this file. Assumes nothing.
-use Prim.Native.Nat.{ℕ, _<_}
+use Prim.Native.Nat.{ℕ, _+_, _<_}
 use mathlib.Core.Path.{_≡_}
 use mathlib.Core.Bool.{true, cond}
 use mathlib.Core.List.{List, _++_, map}
-use lib.ListN.{length, replicate}
+use lib.ListN.{length, take, replicate}
 use lib.Dec.{eqb}
 use Rattle.laws.specs.Lists.{joined}
 use Rattle.laws.specs.Keyed.{In}
 use Rattle.octets.specs.Writing.{bytesOf}
 use Rattle.numbers.specs.Numbers.{none, before}
 use Rattle.numbers.specs.declared.Instant.{Instant}
-use Rattle.slice.specs.Record.{baseline, Property, unmentioned, Slice, viewOf}
+use Rattle.slice.specs.Record.{baseline, recordSize, Property, unmentioned, Slice, viewOf}
 use Rattle.history.specs.Counted.{counts}
 use Rattle.history.specs.State.{State, started, over}
 use Rattle.history.specs.Sweep.{Seen, begun, changed, isCounted}
@@ -36,9 +36,17 @@ pub record Carries (stride : ℕ) (s : State) (r : List ℕ) : Type 0 where
   pub born : s .life .begin .0 < 4294967296
   pub gone : s .life .end .0 < 4294967296
 
--- where a record says a state, the other one says what becomes of it
+-- the record of a line, and behind it the place of a property that goes nowhere
+abbrev pub lineSize : ℕ → ℕ
+lineSize stride = recordSize stride + stride
+
+abbrev pub recordOf : ℕ → List ℕ → List ℕ
+recordOf stride l = take (recordSize stride) l
+
+-- where a line says a state, the other one says what becomes of it
 abbrev pub Turns : ℕ → (State → State) → List ℕ → List ℕ → Type 0
-Turns stride turn before after = (s : State) → Carries stride s before → Carries stride (turn s) after
+Turns stride turn before after =
+    (s : State) → Carries stride s (recordOf stride before) → Carries stride (turn s) (recordOf stride after)
 
 -- a state with the properties that a slice mentions
 abbrev pub mentionsOver : Slice → State → State
@@ -53,8 +61,8 @@ abbrev pub lineNow : Seen → State
 lineNow v = cond (eqb (v .openings) 0) unknownState (v .line)
 
 pub record Lines (stride : ℕ) (v : Seen) (t : Instant) (base line : List ℕ) : Type 0 where
-  pub based : before t (v .end) ≡ true → Carries stride (v .base) base
-  pub opened : Carries stride (lineNow v) line
+  pub based : before t (v .end) ≡ true → Carries stride (v .base) (recordOf stride base)
+  pub opened : Carries stride (lineNow v) (recordOf stride line)
 
 -- what is seen behind one more slice
 abbrev pub seenWith : Seen → Slice → Seen

@@ -8,7 +8,7 @@ ghost use Rattle.octets.specs.Writing.{bytesOf, pasted};
 ghost use Rattle.slice.specs.Record.{recordSize};
 ghost use Rattle.table.specs.Header.{strideOf};
 ghost use Rattle.history.specs.State.{State};
-ghost use Rattle.baselines.specs.Carried.{Carries, unknownState, GoesOn};
+ghost use Rattle.baselines.specs.Carried.{Carries, lineSize, recordOf, unknownState, GoesOn};
 ghost use Rattle.baselines.specs.Steps.{Sweepable, FitsIn, drawnRecord, DrawsKnown};
 ghost use Rattle.baselines.specs.Deriving.{derivedRecords};
 use crate::counting::head;
@@ -54,12 +54,13 @@ fn draw(
     begin: Instant,
     end: Instant,
 )
-    requires { ⌜ (length (now «record») ≡ recordSize stride) × (length (now line) ≡ recordSize stride) ⌝ }
+    requires { ⌜ (length (now «record») ≡ recordSize stride) × (length (now line) ≡ lineSize stride) ⌝ }
     ensures { λ _.
-        ⌜ ((s : State) → Carries stride s (now (line .entry))
+        ⌜ ((s : State) → Carries stride s (recordOf stride (now (line .entry)))
         → now («record» .exit) ≡ drawnRecord stride (sequence .0) begin end s) ⌝ }
 {
-    put(record, 0, line);
+    let size = record.len();
+    put(record, 0, &line[0..size]);
     put_front(record, sequence, begin, end);
 }
 
@@ -76,7 +77,7 @@ fn draw_known(
     end: Instant,
 )
     requires { ⌜ (length (now «record») ≡ recordSize stride)
-        × ((length (now base) ≡ recordSize stride) × (length (now line) ≡ recordSize stride)) ⌝ }
+        × ((length (now base) ≡ lineSize stride) × (length (now line) ≡ lineSize stride)) ⌝ }
     ensures { λ _. ⌜ DrawsKnown stride s t (now (base .entry)) (now (line .entry)) (sequence .0) end (now («record» .exit)) ⌝ }
 {
     if is_based(s, t) {
@@ -89,8 +90,8 @@ fn draw_known(
 // Carries both lines on by the record of an event: a BASELINE begins its own; a PERMDELTA is applied to that
 // of the BASELINE that holds, unless it begins there too, and to that of the first opening, which it may be.
 fn carry(base: &mut [u8], line: &mut [u8], record: &[u8], stride: usize, s: Sweep, t: Instant)
-    requires { ⌜ (length (now base) ≡ recordSize stride)
-        × ((length (now line) ≡ recordSize stride) × (length (now «record») ≡ recordSize stride)) ⌝ }
+    requires { ⌜ (length (now base) ≡ lineSize stride)
+        × ((length (now line) ≡ lineSize stride) × (length (now «record») ≡ recordSize stride)) ⌝ }
     ensures { λ _.
         ⌜ GoesOn stride s (now («record» .entry)) t (now (base .entry)) (now (line .entry)) (now (base .exit))
         (now (line .exit)) ⌝ }
@@ -121,8 +122,9 @@ fn draw_events(
 )
     requires sound { ⌜ Sweepable (now permanent) (now events) ⌝ }
     requires room { ⌜ FitsIn (now permanent) (now output) ⌝ }
-    requires lines { ⌜ (length (now base) ≡ recordSize (strideOf (now permanent)))
-        × ((length (now line) ≡ recordSize (strideOf (now permanent))) × Carries (strideOf (now permanent)) unknownState (now line)) ⌝ }
+    requires lines { ⌜ (length (now base) ≡ lineSize (strideOf (now permanent)))
+        × ((length (now line) ≡ lineSize (strideOf (now permanent)))
+        × Carries (strideOf (now permanent)) unknownState (recordOf (strideOf (now permanent)) (now line))) ⌝ }
     ensures { λ _. ⌜ now (output .exit) ≡ pasted (now (output .entry)) 32 (joined (derivedRecords (now (permanent .entry)))) ⌝ }
 {
     let stride = stride_of(permanent);
@@ -161,10 +163,12 @@ pub(crate) fn draw_all(permanent: &[u8], events: &[u64], output: &mut [u8])
     requires room { ⌜ FitsIn (now permanent) (now output) ⌝ }
     ensures { λ _. ⌜ now (output .exit) ≡ pasted (now (output .entry)) 32 (joined (derivedRecords (now (permanent .entry)))) ⌝ }
 {
+    let stride = stride_of(permanent);
     let size = record_size(permanent);
-    let mut bases = [0u8; 288];
-    let mut lines = [0u8; 288];
-    let line = &mut lines[0..size];
-    put_unknown(line, stride_of(permanent));
-    draw_events(permanent, events, &mut bases[0..size], line, output);
+    let mut bases = [0u8; 320];
+    let mut lines = [0u8; 320];
+    let base = &mut bases[0..size + stride];
+    let line = &mut lines[0..size + stride];
+    put_unknown(&mut line[0..size], stride);
+    draw_events(permanent, events, base, line, output);
 }

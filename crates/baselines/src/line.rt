@@ -7,7 +7,7 @@ ghost use Rattle.octets.specs.Writing.{bytesOf, pasted};
 ghost use Rattle.numbers.specs.Numbers.{isNone};
 ghost use Rattle.slice.specs.Record.{recordSize, viewOf};
 ghost use Rattle.history.specs.State.{applied};
-ghost use Rattle.baselines.specs.Carried.{Carries, Turns, mentionsOver, unknownState};
+ghost use Rattle.baselines.specs.Carried.{Carries, lineSize, Turns, mentionsOver, unknownState};
 use numbers::Instant;
 use octets::byte;
 use octets::put;
@@ -26,11 +26,10 @@ fn put_time(record: &mut [u8], at: usize, time: Instant)
     put32(record, at, time.0);
 }
 
-// Copies the eight bytes of one place: all are read before one is written.
-fn copy8(record: &mut [u8], other: &[u8], at: usize)
-    requires { ⌜ (at + 8 ≤ length (now «record»)) × (at + 8 ≤ length (now other)) ⌝ }
-    ensures { λ _.
-        ⌜ now («record» .exit) ≡ pasted (now («record» .entry)) at (take 8 (drop at (now (other .entry)))) ⌝ }
+// Copies the eight bytes of one place to another: all are read before one is written.
+fn copy8(line: &mut [u8], to: usize, other: &[u8], at: usize)
+    requires { ⌜ (to + 8 ≤ length (now line)) × (at + 8 ≤ length (now other)) ⌝ }
+    ensures { λ _. ⌜ now (line .exit) ≡ pasted (now (line .entry)) to (take 8 (drop at (now (other .entry)))) ⌝ }
 {
     let a = other[at];
     let b = other[at + 1];
@@ -40,56 +39,59 @@ fn copy8(record: &mut [u8], other: &[u8], at: usize)
     let f = other[at + 5];
     let g = other[at + 6];
     let h = other[at + 7];
-    record[at] = a;
-    record[at + 1] = b;
-    record[at + 2] = c;
-    record[at + 3] = d;
-    record[at + 4] = e;
-    record[at + 5] = f;
-    record[at + 6] = g;
-    record[at + 7] = h;
+    line[to] = a;
+    line[to + 1] = b;
+    line[to + 2] = c;
+    line[to + 3] = d;
+    line[to + 4] = e;
+    line[to + 5] = f;
+    line[to + 6] = g;
+    line[to + 7] = h;
 }
 
-// Copies n bytes from one place on, eight at a time.
-fn copy(record: &mut [u8], other: &[u8], at: usize, n: usize)
-    requires { ⌜ (at + n ≤ length (now «record»)) × (at + n ≤ length (now other)) ⌝ }
-    ensures { λ _.
-        ⌜ now («record» .exit) ≡ pasted (now («record» .entry)) at (take n (drop at (now (other .entry)))) ⌝ }
+// Copies n bytes from one place on to another, eight at a time.
+fn copy(line: &mut [u8], to: usize, other: &[u8], at: usize, n: usize)
+    requires { ⌜ (to + n ≤ length (now line)) × (at + n ≤ length (now other)) ⌝ }
+    ensures { λ _. ⌜ now (line .exit) ≡ pasted (now (line .entry)) to (take n (drop at (now (other .entry)))) ⌝ }
 {
     let mut i = 0;
     while n - i >= 8 {
-        copy8(record, other, at + i);
+        copy8(line, to + i, other, at + i);
         i += 8;
     }
-    put(record, at + i, &other[at + i..at + n]);
+    put(line, to + i, &other[at + i..at + n]);
 }
 
-// Writes the properties that a PERMDELTA mentions over those of a state.
-fn put_mentions(record: &mut [u8], delta: &[u8], stride: usize)
-    requires { ⌜ (length (now delta) ≡ recordSize stride) × (length (now «record») ≡ recordSize stride) ⌝ }
+// Writes the properties that a PERMDELTA mentions over those of a line's state. What is not mentioned goes behind
+// the record, so that nothing jumps by what a PERMDELTA mentions.
+fn put_mentions(line: &mut [u8], delta: &[u8], stride: usize)
+    requires { ⌜ (length (now delta) ≡ recordSize stride) × (length (now line) ≡ lineSize stride) ⌝ }
     ensures { λ _.
-        ⌜ Turns stride (mentionsOver (viewOf stride (now (delta .entry)))) (now («record» .entry)) (now («record» .exit)) ⌝ }
+        ⌜ Turns stride (mentionsOver (viewOf stride (now (delta .entry)))) (now (line .entry)) (now (line .exit)) ⌝ }
 {
     let mut n = 0;
     while n < 8 {
         let at = 32 + n * stride;
-        if byte(delta, at) != 0 {
-            copy(record, delta, at, stride);
-        }
+        let to = if byte(delta, at) == 0 {
+            delta.len()
+        } else {
+            at
+        };
+        copy(line, to, delta, at, stride);
         n += 1;
     }
 }
 
-// Makes the record of a state that of the state with a PERMDELTA applied.
-pub(crate) fn apply(record: &mut [u8], delta: &[u8], stride: usize)
-    requires { ⌜ (length (now delta) ≡ recordSize stride) × (length (now «record») ≡ recordSize stride) ⌝ }
+// Makes the line of a state that of the state with a PERMDELTA applied.
+pub(crate) fn apply(line: &mut [u8], delta: &[u8], stride: usize)
+    requires { ⌜ (length (now delta) ≡ recordSize stride) × (length (now line) ≡ lineSize stride) ⌝ }
     ensures { λ _.
-        ⌜ Turns stride (λ s. applied s (viewOf stride (now (delta .entry)))) (now («record» .entry)) (now («record» .exit)) ⌝ }
+        ⌜ Turns stride (λ s. applied s (viewOf stride (now (delta .entry)))) (now (line .entry)) (now (line .exit)) ⌝ }
 {
-    put_mentions(record, delta, stride);
+    put_mentions(line, delta, stride);
     let life = life_of(delta);
-    put_time(record, 16, life.begin);
-    put_time(record, 20, life.end);
+    put_time(line, 16, life.begin);
+    put_time(line, 20, life.end);
 }
 
 // Makes a record of zeros that of a state of which nothing is known: no life time, eight properties that

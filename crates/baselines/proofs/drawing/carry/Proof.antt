@@ -4,9 +4,11 @@ use mathlib.Core.Path.{_≡_, sym, ap, subst, _∙_}
 use mathlib.Core.Bool.{Bool, true, false, not, _&&_, _||_}
 use mathlib.Core.List.{List}
 use mathlib.Core.Logic.{⊎-elim}
+use native.Mathlib.Omega.{arith}
 use lib.ListN.{length}
 use lib.Dec.{eqb, ltb}
 use borrow.Author.Tests.{eq-eqb, ne-eqb}
+use Rattle.octets.specs.Writing.{pasted}
 use Rattle.numbers.specs.Numbers.{isNone, given, before, sameInstant}
 use Rattle.slice.specs.Record.{baseline, Slice, viewOf}
 use Rattle.slice.specs.declared.record.Life.{Life}
@@ -14,9 +16,9 @@ use Rattle.history.specs.State.{applied}
 use Rattle.history.specs.Sweep.{Seen, changed}
 use Rattle.state.proofs.Slices.{view-eight}
 use Rattle.baselines.specs.Sweeping.{timesOf}
-use Rattle.baselines.specs.Carried.{Carries, Turns, Lines, seenWith}
+use Rattle.baselines.specs.Carried.{Carries, recordOf, Turns, Lines, seenWith}
 use Rattle.baselines.specs.declared.sweeping.Sweep.{Sweep}
-use Rattle.state.proofs.Pasting.{pasted-all}
+use Rattle.baselines.proofs.Carried.{record-first}
 use Rattle.baselines.proofs.Lines.{lines-begun, base-applied, base-kept, line-applied, line-kept, lines-changed}
 use borrow.Author.Needs.{needs}
 use Rattle.baselines.proofs.drawing.carry.Statement.{statement}
@@ -37,8 +39,9 @@ returns c =
     let k = eq-eqb (viewOf (a .stride) r .kind) baseline (sym (y .byte .ensures) ∙ p .before .before .if1 .taken) in
     λ v e same counted own h.
     subst (λ (l : List ℕ). Lines (a .stride) (seenWith v (viewOf (a .stride) r)) (a .t) l (a .line .now))
-    (sym (p .put .ensures ∙ pasted-all (a .base .now) r (s .pre .0 ∙ sym (s .pre .1 .1))))
-    (lines-begun (a .stride) v (viewOf (a .stride) r) (a .t) (a .base .now) (a .line .now) r k counted own h)
+    (sym (p .put .ensures))
+    (lines-begun (a .stride) v (viewOf (a .stride) r) (a .t) (a .base .now) (a .line .now) (pasted (a .base .now) 0 r) k counted
+    (λ b. rw (record-first (a .stride) (a .base .now) r (s .pre .1 .1) (omega (arith, s .pre .0))) (own b)) h)
 
 -- ---- a PERMDELTA
 module _ (j : tie.Joined2) where
@@ -60,7 +63,8 @@ module _ (j : tie.Joined2) where
 
   module _ (v : Seen) (e : s .args .s ≡ timesOf v) (same : x .period .begin ≡ s .args .t)
       (h : Lines (s .args .stride) v (s .args .t) (s .args .base .now) (s .args .line .now)) where
-    base-is : before (s .args .t) (changed v x .end) ≡ true → Carries (s .args .stride) (changed v x .base) (j .if2 .base)
+    base-is : before (s .args .t) (changed v x .end) ≡ true
+        → Carries (s .args .stride) (changed v x .base) (recordOf (s .args .stride) (j .if2 .base))
     base-is =
         let t = s .args .t in
         let goes : (before t (v .end) && not (sameInstant (v .begin) t)) ≡ _ =
@@ -70,7 +74,7 @@ module _ (j : tie.Joined2) where
         (λ (i, a, u, b, k, q). base-applied (s .args .stride) v x t same (s .args .base .now) (h .based) (j .if2 .base)
         (goes ∙ i .taken)
         (subst (Turns (s .args .stride) (λ z. applied z x) (s .args .base .now)) (sym q) (u .ensures)))
-        (λ (i, q) b. subst (Carries (s .args .stride) (changed v x .base)) (sym q)
+        (λ (i, q) b. subst (λ (l : List ℕ). Carries (s .args .stride) (changed v x .base) (recordOf (s .args .stride) l)) (sym q)
         (base-kept (s .args .stride) v x t same (s .args .base .now) (h .based) (goes ∙ i .left) b))
         (j .if2 .came)
 

@@ -28,7 +28,7 @@ use Rattle.table.proofs.Stays.{sound-in}
 use Rattle.history.specs.Sweep.{seen}
 use Rattle.baselines.specs.Noting.{headOf}
 use Rattle.baselines.specs.Sweeping.{passedWith, isKnown, isTwo, nextWith}
-use Rattle.baselines.specs.Carried.{Lines, GoesOn}
+use Rattle.baselines.specs.Carried.{lineSize, Lines, GoesOn}
 use Rattle.baselines.specs.Steps.{drawnRecord, DrawsKnown}
 use Rattle.baselines.specs.declared.sweeping.Sweep.{Sweep}
 use Rattle.baselines.proofs.Events.{sliceAt, eventful}
@@ -58,8 +58,8 @@ pub record Drawing (p output₀ base line output : List ℕ) (s : Sweep) (at : �
   pub going : Going p s at t xs done
   pub counted : count ≡ length done
   pub lines : Lines (strideOf p) (seen xs) t base line
-  pub base-long : length base ≡ recordSize (strideOf p)
-  pub line-long : length line ≡ recordSize (strideOf p)
+  pub base-long : length base ≡ lineSize (strideOf p)
+  pub line-long : length line ≡ lineSize (strideOf p)
   pub drawn : output ≡ pasted output₀ 32 (joined done)
   pub sized : length (joined done) ≡ count * recordSize (strideOf p)
 
@@ -180,8 +180,8 @@ carry-requires : tie.Need-carry-requires Inv-loop μ-loop
 carry-requires c κs =
     let k = c .before .before in
     let l = loop k in (
-      inv l .base-long ∙ ap recordSize (strides l),
-      (inv l .line-long ∙ ap recordSize (strides l), record-long k ∙ ap recordSize (strides l)),
+      inv l .base-long ∙ ap lineSize (strides l),
+      (inv l .line-long ∙ ap lineSize (strides l), record-long k ∙ ap recordSize (strides l)),
     )
 
 pass-requires : tie.Need-pass-requires Inv-loop μ-loop
@@ -321,7 +321,7 @@ draw-known-requires c κs =
     let l = at-loop k in (
       mid-len (32 + l .loop .count * size k) (32 + l .loop .count * size k + size k) (l .loop .output) (omega (arith, there k, output-long k))
           ∙ omega (arith, size-is k) ∙ ap recordSize (strides l),
-      (inv l .base-long ∙ ap recordSize (strides l), inv l .line-long ∙ ap recordSize (strides l)),
+      (inv l .base-long ∙ ap lineSize (strides l), inv l .line-long ∙ ap lineSize (strides l)),
     )
 
 loop-again-2 : tie.Need-loop-again-2 Inv-loop μ-loop

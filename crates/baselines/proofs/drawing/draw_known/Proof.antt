@@ -5,7 +5,7 @@ use Rattle.numbers.specs.Numbers.{before}
 use Rattle.history.specs.State.{State}
 use Rattle.history.specs.Sweep.{Seen}
 use Rattle.baselines.specs.Sweeping.{timesOf, isKnown}
-use Rattle.baselines.specs.Carried.{Carries}
+use Rattle.baselines.specs.Carried.{Carries, recordOf}
 use Rattle.baselines.specs.declared.sweeping.Sweep.{Sweep}
 use Rattle.baselines.proofs.Told.{known-line}
 use borrow.Author.Needs.{needs}
@@ -37,7 +37,7 @@ returns-2 c =
     λ v e known lines.
     let b = based q v e ∙ i .left in
     let k : isKnown (timesOf v) (a .t) ≡ true = ap (λ (s : Sweep). isKnown s (a .t)) (sym e) ∙ known in
-    d .draw2 .ensures (v .line) (subst (λ (s : State). Carries (a .stride) s (a .line .now)) (known-line v (a .t) k b) (lines .opened))
+    d .draw2 .ensures (v .line) (subst (λ (s : State). Carries (a .stride) s (recordOf (a .stride) (a .line .now))) (known-line v (a .t) k b) (lines .opened))
     ∙ sym (rw b)
 
 pub draw-known-spec : {M : Type 1} → statement M

@@ -12,20 +12,21 @@ use Rattle.baselines.proofs.line.copy.Statement.{statement}
 use Rattle.baselines.proofs.line.copy.Tie as tie
 
 -- some more bytes
-on : (d o s r : List ℕ) (at i m : ℕ) → at + (i + m) ≤ length d → at + (i + m) ≤ length o → s ≡ pasted d at (take i (drop at o))
-    → r ≡ pasted s (at + i) (take m (drop (at + i) o)) → r ≡ pasted d at (take (i + m) (drop at o))
-on d o s r at i m h k e f =
+on : (d o s r : List ℕ) (to at i m : ℕ) → to + (i + m) ≤ length d → at + (i + m) ≤ length o
+    → s ≡ pasted d to (take i (drop at o)) → r ≡ pasted s (to + i) (take m (drop (at + i) o))
+    → r ≡ pasted d to (take (i + m) (drop at o))
+on d o s r to at i m h k e f =
     let a : length (take i (drop at o)) ≡ i = length-take-le i (drop at o) (simp length-drop (omega arith)) in
     let b : length (take m (drop (at + i) o)) ≡ m = length-take-le m (drop (at + i) o) (simp length-drop (omega arith)) in
-    pasted-on d (take i (drop at o)) (take m (drop (at + i) o)) at (at + i) e f (omega (arith, a)) (omega (arith, b))
-    ∙ ap (pasted d at) (sym (take-add i m (drop at o) ∙ ap (λ (l : List ℕ). take i (drop at o) ++ take m l) (drop-drop i at o)))
+    pasted-on d (take i (drop at o)) (take m (drop (at + i) o)) to (to + i) e f (omega (arith, a)) (omega (arith, b))
+    ∙ ap (pasted d to) (sym (take-add i m (drop at o) ∙ ap (λ (l : List ℕ). take i (drop at o) ++ take m l) (drop-drop i at o)))
 
 abbrev Inv-loop : tie.InvT-loop
-Inv-loop record₀ other at n i₀ «record» i =
-    (i ≤ n) × ((length «record» ≡ length record₀) × («record» ≡ pasted record₀ at (take i (drop at other))))
+Inv-loop line₀ to other at n i₀ line i =
+    (i ≤ n) × ((length line ≡ length line₀) × (line ≡ pasted line₀ to (take i (drop at other))))
 
 abbrev μ-loop : tie.MeasureT-loop
-μ-loop record₀ other at n i₀ «record» i = n - i
+μ-loop line₀ to other at n i₀ line i = n - i
 
 abbrev start : tie.At-loop Inv-loop μ-loop → tie.Start Inv-loop μ-loop
 start l = l .before .before .before
@@ -41,7 +42,7 @@ loop-again c =
       more,
       (
         y .copy8 .kept .0 ∙ l .loop .inv .1 .0,
-        on (a .«record» .now) (a .other .now) (l .loop .«record») _ (a .at) (l .loop .i) 8 (omega (arith, s .pre .0, more))
+        on (a .line .now) (a .other .now) (l .loop .line) _ (a .to) (a .at) (l .loop .i) 8 (omega (arith, s .pre .0, more))
             (omega (arith, s .pre .1, more)) (l .loop .inv .1 .1) (y .copy8 .ensures),
       ),
     )
@@ -55,9 +56,9 @@ returns c =
     let i = l .loop .i in
     let m = a .at + a .n - (a .at + i) in
     let e : i + m ≡ a .n = omega arith in
-    on (a .«record» .now) (a .other .now) (l .loop .«record») _ (a .at) i m (omega (arith, e, s .pre .0))
+    on (a .line .now) (a .other .now) (l .loop .line) _ (a .to) (a .at) i m (omega (arith, e, s .pre .0))
     (omega (arith, e, s .pre .1)) (l .loop .inv .1 .1) (p .put .ensures)
-    ∙ ap (λ (k : ℕ). pasted (a .«record» .now) (a .at) (take k (drop (a .at) (a .other .now)))) e
+    ∙ ap (λ (k : ℕ). pasted (a .line .now) (a .to) (take k (drop (a .at) (a .other .now)))) e
 
 pub copy-spec : {M : Type 1} → statement M
 copy-spec =
@@ -66,6 +67,7 @@ copy-spec =
     Inv-loop
     μ-loop
     (λ c. (omega arith, (refl, pasted-none _ _ (omega arith))))
+    (λ c. omega arith)
     (λ c. omega arith)
     (λ c. omega arith)
     (λ c κs. (omega arith, omega arith))

@@ -1,27 +1,31 @@
--- `baselines::line::put_mentions` meets its contract. The loop: of the state that the record said, the first properties are
--- replaced where they are mentioned. Assumes nothing.
+-- `baselines::line::put_mentions` meets its contract. The loop: of the state that the line said, the first properties are replaced
+-- where they are mentioned. Assumes nothing.
 use Prim.Native.Nat.{ℕ, suc, _+_, _*_, _-_, _≤_}
 use mathlib.Core.Path.{_≡_, refl, sym, ap, subst, _∙_}
+use mathlib.Core.List.{List}
 use mathlib.Core.Logic.{⊎-elim}
 use native.Mathlib.Omega.{arith}
-use lib.ListN.{length}
+use lib.ListN.{length, drop, length-drop}
+use lib.Seq.{length-take-le}
 use Rattle.laws.proofs.Pieces.{piece-within}
-use Rattle.slice.specs.Record.{viewOf}
+use Rattle.octets.specs.Writing.{pasted}
+use Rattle.slice.specs.Record.{recordSize, viewOf}
 use Rattle.history.specs.State.{State}
 use Rattle.state.proofs.Slices.{propertyAt, view-eight, view-sized}
-use Rattle.baselines.specs.Carried.{Carries}
-use Rattle.baselines.proofs.Carried.{partly, partly-all, carry-skip, carry-put, view-skips, view-says}
+use Rattle.baselines.specs.Carried.{Carries, lineSize, recordOf}
+use Rattle.baselines.proofs.Carried.{partly, partly-all, carry-skip, carry-put, view-skips, view-says, take-behind, take-property}
 use borrow.Author.Needs.{needs}
 use Rattle.baselines.proofs.line.put_mentions.Statement.{statement}
 use Rattle.baselines.proofs.line.put_mentions.Tie as tie
 
 abbrev Inv-loop : tie.InvT-loop
-Inv-loop record₀ delta stride n₀ «record» n =
-    (n ≤ 8) × ((length «record» ≡ length record₀)
-    × ((s : State) → Carries stride s record₀ → Carries stride (partly stride n s (viewOf stride delta)) «record»))
+Inv-loop line₀ delta stride n₀ line n =
+    (n ≤ 8) × ((length line ≡ length line₀)
+    × ((s : State) → Carries stride s (recordOf stride line₀)
+    → Carries stride (partly stride n s (viewOf stride delta)) (recordOf stride line)))
 
 abbrev μ-loop : tie.MeasureT-loop
-μ-loop record₀ delta stride n₀ «record» n = 8 - n
+μ-loop line₀ delta stride n₀ line n = 8 - n
 
 abbrev start : tie.At-loop Inv-loop μ-loop → tie.Start Inv-loop μ-loop
 start l = l .before .before .before
@@ -32,44 +36,72 @@ within : (k : tie.In-loop Inv-loop μ-loop)
 within k = let s = start (k .before) in
     omega (arith, piece-within (s .args .stride) (k .before .loop .n) 8 (k .loop-test .taken), s .pre .0)
 
+long : (k : tie.In-loop Inv-loop μ-loop) → length (k .before .loop .line) ≡ lineSize (start (k .before) .args .stride)
+long k = k .before .loop .inv .1 .0 ∙ start (k .before) .pre .1
+
 copy-requires : tie.Need-copy-requires Inv-loop μ-loop
 copy-requires c κs =
-    let k = c .before .before .before in
+    let j = c .before in
+    let k = j .before .before in
     let s = start (k .before) in
-    (omega (arith, within k, k .before .loop .inv .1 .0, s .pre .0, s .pre .1), omega (arith, within k))
+    let to : j .if1 .to ≤ recordSize (s .args .stride) =
+    ⊎-elim (λ (i, e). omega (arith, e, s .pre .0)) (λ (i, e). omega (arith, e, within k, s .pre .0)) (j .if1 .came) in
+    (omega (arith, to, long k), omega (arith, within k))
+
+-- ---- a turn
+module _ (w : tie.After-copy Inv-loop μ-loop) where
+  abbrev j : tie.Joined1 Inv-loop μ-loop
+  j = w .before .before
+
+  abbrev k : tie.In-loop Inv-loop μ-loop
+  k = j .before .before
+
+  abbrev l : tie.At-loop Inv-loop μ-loop
+  l = k .before
+
+  abbrev stride : ℕ
+  stride = start l .args .stride
+
+  abbrev delta : List ℕ
+  delta = start l .args .delta .now
+
+  abbrev at : ℕ
+  at = 32 + l .loop .n * stride
+
+  abbrev bytes : List ℕ
+  bytes = propertyAt stride delta (l .loop .n)
+
+  bytes-long : length bytes ≡ stride
+  bytes-long = length-take-le stride (drop at delta) (simp length-drop (omega (arith, within k)))
+
+  -- where it goes
+  goes : (to : ℕ) → j .if1 .to ≡ to → recordOf stride (w .copy .last .0) ≡ recordOf stride (pasted (l .loop .line) to bytes)
+  goes to e = ap (recordOf stride) (w .copy .ensures ∙ ap (λ (n : ℕ). pasted (l .loop .line) n bytes) e)
+
+  carried : (s : State) → Carries stride s (recordOf stride (start l .args .line .now))
+      → Carries stride (partly stride (suc (l .loop .n)) s (viewOf stride delta)) (recordOf stride (w .copy .last .0))
+  carried s h =
+      let was = l .loop .inv .1 .1 s h in
+      let few = k .loop-test .taken in
+      let size = start l .pre .0 in
+      ⊎-elim
+      (λ (i, e). subst (Carries stride (partly stride (suc (l .loop .n)) s (viewOf stride delta)))
+      (sym (goes (recordSize stride) (e ∙ size)
+      ∙ take-behind (recordSize stride) (l .loop .line) bytes (omega (arith, bytes-long, long k))))
+      (carry-skip stride (l .loop .n) s (viewOf stride delta) (recordOf stride (l .loop .line)) was
+      (view-skips stride delta (l .loop .n) few size (sym (j .before .byte .ensures) ∙ i .taken))))
+      (λ (i, e). carry-put stride (l .loop .n) s (viewOf stride delta) (recordOf stride (l .loop .line)) was bytes
+      (view-says stride delta (l .loop .n) few size (λ z. i .left (j .before .byte .ensures ∙ z)))
+      few (view-sized stride delta size) (h .sized) (h .eight) _
+      (goes at e
+      ∙ take-property stride (l .loop .line) bytes at (omega (arith, bytes-long, within k, size)) (omega (arith, long k))))
+      (j .if1 .came)
 
 loop-again : tie.Need-loop-again Inv-loop μ-loop
 loop-again c =
-    let b = c .before in
-    let k = b .before in
-    let l = k .before in
-    let s = start l in
-    let stride = s .args .stride in
-    let delta = s .args .delta .now in
-    let n = l .loop .n in
-    let more : n + 1 ≡ suc n = omega arith in
-    let at = 32 + n * stride in
-    ⊎-elim
-    (λ (i, a, u, v, w, e). let q = e ∙ u .ensures in (
-      omega arith,
-      (
-        ap length e ∙ u .kept .0 ∙ l .loop .inv .1 .0,
-        λ t h. rw more
-            (carry-put stride n t (viewOf stride delta) (l .loop .«record») (l .loop .inv .1 .1 t h) (propertyAt stride delta n)
-            (view-says stride delta n (k .loop-test .taken) (s .pre .0) (λ z. i .taken (b .byte .ensures ∙ z)))
-            (k .loop-test .taken) (view-sized stride delta (s .pre .0)) (h .sized) (h .eight) _ q),
-      ),
-    ))
-    (λ (i, e). (
-      omega arith,
-      (
-        ap length e ∙ l .loop .inv .1 .0,
-        λ t h. rw (more, e)
-            (carry-skip stride n t (viewOf stride delta) (l .loop .«record») (l .loop .inv .1 .1 t h)
-            (view-skips stride delta n (k .loop-test .taken) (s .pre .0) (sym (b .byte .ensures) ∙ i .left))),
-      ),
-    ))
-    (c .if1 .came)
+    let w = c .before .before in
+    let more : l w .loop .n + 1 ≡ suc (l w .loop .n) = omega arith in
+    (omega arith, (w .copy .kept .0 ∙ l w .loop .inv .1 .0, λ s h. rw more (carried w s h)))
 
 returns : tie.Need-returns Inv-loop μ-loop
 returns c =
@@ -78,9 +110,9 @@ returns c =
     let stride = s .args .stride in
     let d = viewOf stride (s .args .delta .now) in
     let e : l .loop .n ≡ 8 = omega arith in
-    λ t h. subst (λ (u : State). Carries stride u (l .loop .«record»))
+    λ t h. subst (λ (u : State). Carries stride u (recordOf stride (l .loop .line)))
     (partly-all stride t d (view-eight stride (s .args .delta .now)) (h .eight))
-    (subst (λ (m : ℕ). Carries stride (partly stride m t d) (l .loop .«record»)) e (l .loop .inv .1 .1 t h))
+    (subst (λ (m : ℕ). Carries stride (partly stride m t d) (recordOf stride (l .loop .line))) e (l .loop .inv .1 .1 t h))
 
 pub put-mentions-spec : {M : Type 1} → statement M
 put-mentions-spec =
