@@ -145,7 +145,7 @@ tsl_answer tsl_touched(const uint8_t *temporary, size_t temporary_len, uint32_t 
 
 /*
  * Derives the baselines of a permanent table. The output becomes a permanent table of the same feature; its bytes after the
- * last record are kept. 57376 bytes hold every result. Uses about 60 kB of stack.
+ * last record are kept. 57376 bytes hold every result. Uses about 9 kB of stack.
  *
  * Returns
  *   kind 1   derived: number is the number of records
@@ -157,7 +157,7 @@ tsl_answer tsl_derive(const uint8_t *permanent, size_t permanent_len, uint8_t *o
  * Writes the listing of a permanent table's derived baselines as text. This call is never refused: if tsl_derive refuses the
  * table for an output of 57376 bytes, the text is the line "refused N". The table may have any length, over 57376 bytes too;
  * as always, bytes after its last record are ignored. (Only the listing program stops there, with "too long".) The text has no
- * zero byte at its end, and the bytes after it are kept. 10771 bytes hold every listing. Uses about 130 kB of stack.
+ * zero byte at its end, and the bytes after it are kept. 10771 bytes hold every listing. Uses about 77 kB of stack.
  *
  * Returns
  *   kind 1   written: number is the length of the text

@@ -316,7 +316,7 @@ pub fn touched(temporary: &[u8], instant: Instant, property: u8) -> Result<Touch
 /// The output becomes a permanent table of the same feature; its bytes after the last record are kept.
 /// [`LARGEST_TABLE`](crate::LARGEST_TABLE) bytes hold every result.
 ///
-/// Uses about 60 kB of stack.
+/// Uses about 9 kB of stack.
 ///
 /// # Errors
 ///
@@ -354,7 +354,7 @@ pub fn derive(permanent: &[u8], output: &mut [u8]) -> Result<usize, Refusal> {
 /// bytes, the text is the line `refused N`. The table may have any length. The bytes after the text are kept.
 /// [`LISTING_BYTES`] bytes hold every listing.
 ///
-/// Uses about 130 kB of stack.
+/// Uses about 77 kB of stack.
 ///
 /// # Errors
 ///
@@ -386,7 +386,7 @@ pub fn listing<'a>(permanent: &[u8], text: &'a mut [u8]) -> Result<&'a str, List
 
 /// Returns the [`listing`] of a permanent table's derived baselines as a string.
 ///
-/// Uses about 130 kB of stack.
+/// Uses about 77 kB of stack.
 ///
 /// # Examples
 ///
