@@ -64,7 +64,8 @@ record-first stride d r e h =
     ∙ pasted-all (take (recordSize stride) d) r (length-take-le (recordSize stride) d h ∙ sym e)
 
 -- a life time that is written into it
-pub take-time : (stride : ℕ) (b : Bool) (d r x : List ℕ) (at : ℕ) → at + length x ≤ recordSize stride → recordSize stride ≤ length r
+pub take-time : (stride : ℕ) (b : Bool) (d r x : List ℕ) (at : ℕ) → at + length x ≤ recordSize stride
+    → recordSize stride ≤ length r
     → d ≡ cond b r (pasted r at x)
     → take (recordSize stride) d ≡ cond b (take (recordSize stride) r) (pasted (take (recordSize stride) r) at x)
 take-time stride true d r x at h k e = ap (take (recordSize stride)) e

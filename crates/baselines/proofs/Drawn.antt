@@ -40,7 +40,8 @@ drawn-long : (stride : ℕ) (s : State) (r : List ℕ) → Carries stride s r �
 drawn-long stride s r c n begin end = ap length (sym (carried-drawn stride s r c n begin end)) ∙ pasted-length r _ 0
 
 -- that of the state that is known is as long as both
-pub known-long : (stride : ℕ) (v : Seen) (t : Instant) (base line : List ℕ) → Lines stride v t base line → isKnown (timesOf v) t ≡ true
+pub known-long : (stride : ℕ) (v : Seen) (t : Instant) (base line : List ℕ) → Lines stride v t base line
+    → isKnown (timesOf v) t ≡ true
     → length base ≡ lineSize stride → length line ≡ lineSize stride → (n : ℕ) (end : Instant)
     → length (drawnRecord stride n t end (cond (before t (v .end)) (v .base) (v .line))) ≡ recordSize stride
 known-long stride v t base line l k h g n end =

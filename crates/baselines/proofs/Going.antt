@@ -36,9 +36,11 @@ use Rattle.baselines.proofs.Swept.{eventsOf, Run, first-here, run-start
 use Rattle.baselines.proofs.Swept.{record-placed, record-begins, record-counts}
 use Rattle.baselines.proofs.Swept.{two-here, state-here, next-here}
 use Rattle.baselines.proofs.Told.{pass-told, openings-few, two-times, next-times, known-told, unknown-told}
-use Rattle.baselines.proofs.Walked.{Walked, walked-none, walked-given, walked-in, walked-on, walked-past, walked-more, walked-all}
+use Rattle.baselines.proofs.Walked.{Walked, walked-none, walked-given, walked-in, walked-on, walked-past, walked-more}
+use Rattle.baselines.proofs.Walked.{walked-all}
 
--- a sweep is at an event and an instant: it has passed some slices, and its times are those of what it has seen; the records of the
+-- a sweep is at an event and an instant: it has passed some slices, and its times are those of what it has seen; the records of
+-- the
 -- change instants before are done
 pub record Going (p : List ℕ) (s : Sweep) (at : ℕ) (t : Instant) (xs : List Slice) (done : List (List ℕ)) : Type 0 where
   pub run : Run p at t xs
@@ -56,7 +58,8 @@ next-most : (s : Sweep) (t next : Instant) → nextWith s t next .0 ≤ next .0
 unfolding nextWith before
 next-most s t next =
     pick-ind (λ (u : Instant). u .0 ≤ next .0) (before t (s .end) && not (before next (s .end)))
-    (λ b. let n = not-true (ltb (next .0) (s .end .0)) (and-both (before t (s .end)) (not (before next (s .end))) b .1) in omega tests)
+    (λ b. let n = not-true (ltb (next .0) (s .end .0)) (and-both (before t (s .end)) (not (before next (s .end))) b .1) in omega
+    tests)
     (λ _. omega tests)
 
 module _ (p : List ℕ) (bytes : Bytes p) (sound : checkTable Permanent p ≡ Sound) where
@@ -99,7 +102,8 @@ module _ (p : List ℕ) (bytes : Bytes p) (sound : checkTable Permanent p ≡ So
       pub going-counts : placeOf event < 256 → isCounted (sliceAt p (placeOf event)) ≡ true
       going-counts = record-counts p bytes sound at t xs (g .run) going-within now
 
-      pub going-record : placeOf event < 256 → (s' : Sweep) → s' ≡ passedWith s (recordAt (recordSize (strideOf p)) (placeOf event) p) t
+      pub going-record : placeOf event < 256 → (s' : Sweep)
+          → s' ≡ passedWith s (recordAt (recordSize (strideOf p)) (placeOf event) p) t
           → Going p s' (at + 1) t (sliceAt p (placeOf event) ∷ xs) done
       going-record h s' e = record {
         run = run-record p bytes sound at t xs (g .run) going-within now h;

@@ -110,7 +110,8 @@ module _ (stride : ℕ) (v : Seen) (x : Slice) where
       → Carries stride (lineNow v) (recordOf stride line) → Carries stride (lineNow (changed v x)) (recordOf stride line′)
   unfolding changed
   line-applied line line′ n e f h =
-      subst (λ (s : State). Carries stride s (recordOf stride line′)) (on x n (v .openings) (given (x .life .begin)) (v .line) e) (f (lineNow v) h)
+      subst (λ (s : State). Carries stride s (recordOf stride line′)) (on x n (v .openings) (given (x .life .begin)) (v .line) e)
+      (f (lineNow v) h)
 
   pub line-kept : (line : List ℕ) → (ltb 0 (v .openings) || given (x .life .begin)) ≡ false
       → Carries stride (lineNow v) (recordOf stride line) → Carries stride (lineNow (changed v x)) (recordOf stride line)

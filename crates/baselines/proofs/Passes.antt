@@ -20,7 +20,8 @@ use Rattle.octets.specs.Bytes.{filled, Bytes}
 use Rattle.octets.specs.Writing.{bytesOf}
 use Rattle.numbers.specs.declared.Instant.{Instant}
 use Rattle.property.specs.Eight.{breaks, mentioned, eight}
-use Rattle.slice.specs.Record.{baseline, permdelta, permanent, ofSide, recordSize, partsOf, Property, unmentioned, says, propertyOf, Slice}
+use Rattle.slice.specs.Record.{baseline, permdelta, permanent, ofSide, recordSize, partsOf, Property, unmentioned, says}
+use Rattle.slice.specs.Record.{propertyOf, Slice}
 use Rattle.slice.specs.Record.{viewOf}
 use Rattle.slice.specs.Check.{checkRecord}
 use Rattle.slice.specs.Rules.{timesOf, timesRight, contentRight}

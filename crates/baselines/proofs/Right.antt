@@ -90,7 +90,8 @@ module _ (p : List ℕ) (bytes : Bytes p) (sound : checkTable Permanent p ≡ So
   timely d m c =
       let right = counted-right d m (not-true (d .cancelled) (and-both (eqb (d .kind) permdelta) (not (d .cancelled)) c .1)) in
       let times =
-      permdelta-times (d .period) (d .life) (ap (λ n. timesOf n (d .period) (d .life)) (sym (counts-kind permdelta d c)) ∙ right) in
+      permdelta-times (d .period) (d .life) (ap (λ n. timesOf n (d .period) (d .life)) (sym (counts-kind permdelta d c)) ∙ right)
+      in
       ⊎-elim (λ e. inl (instant-of (d .life .end) numbers.none e)) (λ e. inr (instant-of (d .life .end) (d .period .begin) e))
       (times .lifeEnd)
 

@@ -1,4 +1,5 @@
--- A sweep over the events of a table in order: what it has passed by an event, and that this tells the permanent state at each change
+-- A sweep over the events of a table in order: what it has passed by an event, and that this tells the permanent state at each
+-- change
 -- instant. Assumes nothing.
 use Prim.Native.Nat.{ℕ, zero, suc, _+_, _≤_, _<_}
 use mathlib.Core.Path.{_≡_, refl, sym, ap, _∙_, subst}
@@ -52,7 +53,8 @@ head-least (f ∷ l) (low, h) e (inl q) = let z = ap (λ x. timeOf x .0) q in om
 head-least (f ∷ l) (low, h) e (inr m) = ⊎-elim (λ k. omega tests) (λ (k, _). omega tests) (low e m)
 
 -- where the first is not of an instant that none comes before, all are later
-head-beyond : (l : List ℕ) (t : Instant) → Pairs Later l → ((e : ℕ) → In e l → t .0 ≤ timeOf e .0) → sameInstant (headOf l) t ≡ false
+head-beyond : (l : List ℕ) (t : Instant) → Pairs Later l → ((e : ℕ) → In e l → t .0 ≤ timeOf e .0)
+    → sameInstant (headOf l) t ≡ false
     → (e : ℕ) → In e l → t .0 < timeOf e .0
 unfolding sameInstant
 head-beyond (f ∷ l) t up all n e m = let b = all f (inl refl) in let k = head-least (f ∷ l) up e m in omega tests
@@ -253,7 +255,8 @@ module _ (p : List ℕ) (bytes : Bytes p) (sound : checkTable Permanent p ≡ So
     pub record-counts : placeOf event < 256 → isCounted (sliceAt p (placeOf event)) ≡ true
     record-counts h =
         ⊎-elim
-        (λ (j, l, q, g, e). counted-given p bytes sound (sliceAt p (placeOf event)) (in-slices p bytes sound (placeOf event) (record-placed h))
+        (λ (j, l, q, g, e). counted-given p bytes sound (sliceAt p (placeOf event)) (in-slices p bytes sound (placeOf event)
+        (record-placed h))
         ∙ ap (λ (n : ℕ). given (sliceAt p n .period .begin)) q ∙ g)
         (λ g. absurd (omega (tests, g .0))) (evs .from event there)
 

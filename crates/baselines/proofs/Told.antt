@@ -41,7 +41,8 @@ pass-told stride v r t e =
     (λ k. rw k (λ i. record {
       begin = v .begin;
       end = v .end;
-      gone = (ap (λ (u : Instant). cond (sameInstant (v .begin) u) (v .base .life .end) (newTime (lifeOf r .end) (v .base .life .end))) (sym e)
+      gone = (ap (λ (u : Instant). cond (sameInstant (v .begin) u) (v .base .life .end) (newTime (lifeOf r .end) (v .base .life
+          .end))) (sym e)
           ∙ ended (sameInstant (v .begin) (periodOf r .begin)) (v .base) (applied (v .base) (viewOf stride r))) i;
       left = ended (eqb (v .openings) 0) (started (viewOf stride r)) (applied (v .line) (viewOf stride r)) i;
       openings = one-more (isNone (lifeOf r .begin)) (v .openings) i;

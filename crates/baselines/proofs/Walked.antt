@@ -80,7 +80,8 @@ module _ (p : List ℕ) where
         walked-past k v n = record {
           since = justAfter t;
           here = e;
-          all = w .all ∙ ap (λ (l : List (List ℕ)). done ++ l) (ap (drawnFrom (suc (length done))) ahead ∙ gone (suc (length done)));
+          all = w .all ∙ ap (λ (l : List (List ℕ)). done ++ l) (ap (drawnFrom (suc (length done))) ahead ∙ gone (suc (length
+              done)));
           two = w .two ∙ ap (any (λ u. hasTwo (permanentAt u (slicesOf p)))) ahead ∙ rw (v, n);
           most = omega (arith, w .most, walked-on .0);
           below = walked-on .1;

@@ -1,4 +1,5 @@
--- A sweep over the counted slices of a table in order of their begins: what it has seen by an instant. No public promise cites this
+-- A sweep over the counted slices of a table in order of their begins: what it has seen by an instant. No public promise cites
+-- this
 -- file. Assumes nothing.
 use Prim.Native.Nat.{ℕ, suc}
 use mathlib.Core.Path.{_≡_}
@@ -47,7 +48,8 @@ begun s b = record {
   two = s .two || meets (s .begin) (s .end) (b .period .begin);
 }
 
--- a PERMDELTA: it goes to the line of the BASELINE, unless that begins there, and to that of the opening; the first to open begins it
+-- a PERMDELTA: it goes to the line of the BASELINE, unless that begins there, and to that of the opening; the first to open
+-- begins it
 unfoldable pub changed : Seen → Slice → Seen
 changed s d = record {
   begin = s .begin;

@@ -120,7 +120,8 @@ loop-again c =
       going = going-record (p l) (bytes l) (sound (t .before)) _ _ _ _ _ (inv l .going) (go (t .before)) (now t)
           (rw (← place) (i .taken)) (c .if3 .s)
           (e ∙ q .ensures
-          ∙ ap (λ (b : List ℕ). passedWith (l .loop .s) b (l .loop .t)) (r .ensures .0 ∙ (λ i. recordAt (size i) (place i) (p l))));
+          ∙ ap (λ (b : List ℕ). passedWith (l .loop .s) b (l .loop .t)) (r .ensures .0 ∙ (λ i. recordAt (size i) (place i) (p
+          l))));
       counted = inv l .counted;
     })
     (λ (i, e). record {

@@ -71,7 +71,8 @@ returns-3 : tie.Need-returns-3
 returns-3 c =
     let d = c .before .before .before in (
       ap derivationReply
-          (two-refused _ _ (sound (checked (swept d))) (told-two _ (sym (d .count-all .ensures) ∙ c .before .enum-told2 .given .1))),
+          (two-refused _ _ (sound (checked (swept d))) (told-two _ (sym (d .count-all .ensures) ∙ c .before .enum-told2 .given
+          .1))),
       refl,
     )
 

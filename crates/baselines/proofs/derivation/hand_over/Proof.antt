@@ -32,7 +32,8 @@ sized c = ap (λ (n : ℕ). start c .args .count * n) (c .record-size .ensures)
 
 long : (c : tie.After-record-size) → length (joined (records c)) ≡ start c .args .count * 224
 long c =
-    derived-long (start c .args .permanent .now) (λ i. c .before .before .before .shared-slice-known .given i .fits) (start c .pre .0 .0)
+    derived-long (start c .args .permanent .now) (λ i. c .before .before .before .shared-slice-known .given i .fits) (start c .pre
+    .0 .0)
     ∙ ap (λ (n : ℕ). n * 224) (sym (start c .pre .1 .1))
 
 headed : (c : tie.After-record-size) → 32 ≤ length (start c .args .permanent .now)

@@ -1,4 +1,5 @@
--- `baselines::drawing::draw_events` meets its contract: each turn passes an event and carries both lines on, or draws the record of a
+-- `baselines::drawing::draw_events` meets its contract: each turn passes an event and carries both lines on, or draws the record
+-- of a
 -- change instant behind those before it. Assumes nothing.
 use Prim.Native.Nat.{ℕ, suc, _+_, _-_, _*_, _≤_, _<_}
 use mathlib.Core.Path.{_≡_, refl, sym, ap, _∙_, subst}
@@ -35,7 +36,8 @@ use Rattle.baselines.proofs.Events.{sliceAt, eventful}
 use Rattle.baselines.proofs.Swept.{eventsOf}
 use Rattle.baselines.proofs.Based.{carry-base}
 use Rattle.baselines.proofs.Drawn.{lines-later, known-long, joined-long, drawn-behind, drawn-few, drawn-room}
-use Rattle.baselines.proofs.Going.{Going, stateAt, going-start, going-few, going-within, going-placed, going-begins, going-counts}
+use Rattle.baselines.proofs.Going.{Going, stateAt, going-start, going-few, going-within, going-placed, going-begins}
+use Rattle.baselines.proofs.Going.{going-counts}
 use Rattle.baselines.proofs.Going.{going-record, going-gone, going-two, going-on, going-past, going-more, going-end}
 use borrow.Author.Needs.{needs}
 use Rattle.baselines.proofs.drawing.draw_events.Statement.{statement}
@@ -162,7 +164,8 @@ loop-holds : tie.Need-loop-holds Inv-loop μ-loop
 loop-holds c =
     let s = c .before .before .before .before .before .before .before .before .before in
     let q = s .args .permanent .now in
-    let known : Bytes q = λ i. c .before .before .before .before .before .before .before .before .shared-slice-known .given i .fits in
+    let known : Bytes q = λ i. c .before .before .before .before .before .before .before .before .shared-slice-known .given i
+    .fits in
     let e : c .head .result ≡ headOf (eventsOf q) = c .head .ensures ∙ ap headOf (s .pre .0 .1) in
     record {
       xs = [];
@@ -198,11 +201,19 @@ loop-again c =
     let t = c .before .before .before in
     let l = turn t in
     ⊎-elim
-    (λ (i, r, a, a′, k, b, n, m, o, q, eb, el, es). let d : tie.After-record-at Inv-loop μ-loop = record { before = record { before = c .before; if3 = i }; record-at = r } in
+    (λ (i, r, a, a′, k, b, n, m, o, q, eb, el, es). let d : tie.After-record-at Inv-loop μ-loop = record {
+      before = record {
+        before = c .before;
+        if3 = i;
+      };
+      record-at = r;
+    } in
     let on = subst
-    (λ (x : List ℕ). GoesOn (strideOf (p l)) (l .loop .s) x (l .loop .t) (l .loop .base) (l .loop .line) (c .if3 .base) (c .if3 .line))
+    (λ (x : List ℕ). GoesOn (strideOf (p l)) (l .loop .s) x (l .loop .t) (l .loop .base) (l .loop .line) (c .if3 .base) (c .if3
+    .line))
     (record-is d)
-    (subst (λ (n : ℕ). GoesOn n (l .loop .s) (r .result .now) (l .loop .t) (l .loop .base) (l .loop .line) (c .if3 .base) (c .if3 .line))
+    (subst (λ (n : ℕ). GoesOn n (l .loop .s) (r .result .now) (l .loop .t) (l .loop .base) (l .loop .line) (c .if3 .base) (c .if3
+    .line))
     (sym (strides l)) (rw (eb, el) (k .ensures))) in
     record {
       xs = sliceAt (p l) (place d) ∷ inv l .xs;
@@ -246,7 +257,8 @@ module _ (n : tie.After-next-of Inv-loop μ-loop) where
 
   one : isTwo (turned .loop .s) (turned .loop .t) ≡ false
   one = never _ (λ y. contrary
-      (going-two (p turned) (bytes turned) (sound turned) _ _ _ _ _ (inv turned .going) (go (past .before)) over y) (start turned .pre .0 .2))
+      (going-two (p turned) (bytes turned) (sound turned) _ _ _ _ _ (inv turned .going) (go (past .before)) over y) (start turned
+      .pre .0 .2))
 
   abbrev end : Instant
   end = n .next-of .result
@@ -275,8 +287,10 @@ module _ (c : tie.Then4 Inv-loop μ-loop) where
   drawing = drawnRecord (strideOf (p at-loop)) (suc (length (inv at-loop .done))) (at-loop .loop .t) (end ended)
       (stateAt (inv at-loop .xs) (at-loop .loop .t))
 
-  more : Going (p at-loop) (at-loop .loop .s) (at-loop .loop .at) (end ended) (inv at-loop .xs) (inv at-loop .done ++ (drawing ∷ []))
-  more = going-more (p at-loop) (bytes at-loop) (sound at-loop) _ _ _ _ _ (inv at-loop .going) (go (past ended .before)) (over ended)
+  more : Going (p at-loop) (at-loop .loop .s) (at-loop .loop .at) (end ended) (inv at-loop .xs) (inv at-loop .done ++ (drawing ∷
+      []))
+  more = going-more (p at-loop) (bytes at-loop) (sound at-loop) _ _ _ _ _ (inv at-loop .going) (go (past ended .before)) (over
+      ended)
       (one ended) (end ended) (end-is ended) is-known
 
   drawing-long : length drawing ≡ recordSize (strideOf (p at-loop))
@@ -319,7 +333,11 @@ draw-known-requires : tie.Need-draw-known-requires Inv-loop μ-loop
 draw-known-requires c κs =
     let k = c .before .before .before in
     let l = at-loop k in (
-      mid-len (32 + l .loop .count * size k) (32 + l .loop .count * size k + size k) (l .loop .output) (omega (arith, there k, output-long k))
+      mid-len (32 + l .loop .count * size k) (32 + l .loop .count * size k + size k) (l .loop .output) (omega (
+        arith,
+        there k,
+        output-long k,
+      ))
           ∙ omega (arith, size-is k) ∙ ap recordSize (strides l),
       (inv l .base-long ∙ ap lineSize (strides l), inv l .line-long ∙ ap lineSize (strides l)),
     )
@@ -357,7 +375,8 @@ loop-again-3 c =
     record {
       xs = inv l .xs;
       done = inv l .done;
-      going = going-past (p l) (bytes l) (sound l) _ _ _ _ _ (inv l .going) (go (past n .before)) (over n) (one n) (end n) (end-is n)
+      going = going-past (p l) (bytes l) (sound l) _ _ _ _ _ (inv l .going) (go (past n .before)) (over n) (one n) (end n) (end-is
+          n)
           (sym (c .before .is-known .ensures) ∙ c .if4 .left);
       counted = inv l .counted;
       lines = later-lines n;

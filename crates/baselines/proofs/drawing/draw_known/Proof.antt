@@ -16,7 +16,8 @@ abbrev start : tie.After-is-based → tie.Start
 start q = q .before .before .before .before
 
 -- whether the BASELINE that began last holds, told by what is seen
-based : (q : tie.After-is-based) (v : Seen) → start q .args .s ≡ timesOf v → before (start q .args .t) (v .end) ≡ q .is-based .result
+based : (q : tie.After-is-based) (v : Seen) → start q .args .s ≡ timesOf v
+    → before (start q .args .t) (v .end) ≡ q .is-based .result
 based q v e = ap (λ (s : Sweep). before (start q .args .t) (s .end)) (sym e) ∙ sym (q .is-based .ensures)
 
 returns : tie.Need-returns
@@ -37,7 +38,8 @@ returns-2 c =
     λ v e known lines.
     let b = based q v e ∙ i .left in
     let k : isKnown (timesOf v) (a .t) ≡ true = ap (λ (s : Sweep). isKnown s (a .t)) (sym e) ∙ known in
-    d .draw2 .ensures (v .line) (subst (λ (s : State). Carries (a .stride) s (recordOf (a .stride) (a .line .now))) (known-line v (a .t) k b) (lines .opened))
+    d .draw2 .ensures (v .line) (subst (λ (s : State). Carries (a .stride) s (recordOf (a .stride) (a .line .now))) (known-line v
+    (a .t) k b) (lines .opened))
     ∙ sym (rw b)
 
 pub draw-known-spec : {M : Type 1} → statement M

@@ -15,7 +15,8 @@ returns c =
     let s = p1 .before .before .before .before in
     let roomy = s .pre in
     pasted-on _ _ _ 0 12
-    (pasted-on _ _ _ 0 8 (pasted-on _ _ _ 0 4 (p1 .put .ensures) (p2 .put32 .ensures) refl (omega arith)) (p3 .put322 .ensures) refl
+    (pasted-on _ _ _ 0 8 (pasted-on _ _ _ 0 4 (p1 .put .ensures) (p2 .put32 .ensures) refl (omega arith)) (p3 .put322 .ensures)
+    refl
     (omega arith)) (p4 .put323 .ensures) refl (omega arith)
 
 pub put-front-spec : {M : Type 1} → statement M

@@ -31,7 +31,8 @@ returns c =
     let born : lifeOf delta .begin .0 < 4294967296 = omega (arith, instant-most delta 16 bytes) in
     let gone : lifeOf delta .end .0 < 4294967296 = omega (arith, instant-most delta 20 bytes) in
     let start = known .before .before in
-    let long : recordSize (a .stride) ≤ length (m .put-mentions .last .0) = omega (arith, m .put-mentions .kept .0, start .pre .1) in
+    let long : recordSize (a .stride) ≤ length (m .put-mentions .last .0) = omega (arith, m .put-mentions .kept .0, start .pre .1)
+    in
     let first = take-time (a .stride) (isNone (lifeOf delta .begin)) (b .put-time .last .0) (m .put-mentions .last .0)
     (bytesOf 4 (lifeOf delta .begin .0)) 16 (omega arith) long
     (b .put-time .ensures

@@ -13,7 +13,8 @@ use Rattle.slice.specs.Record.{recordSize, viewOf}
 use Rattle.history.specs.State.{State}
 use Rattle.state.proofs.Slices.{propertyAt, view-eight, view-sized}
 use Rattle.baselines.specs.Carried.{Carries, lineSize, recordOf}
-use Rattle.baselines.proofs.Carried.{partly, partly-all, carry-skip, carry-put, view-skips, view-says, take-behind, take-property}
+use Rattle.baselines.proofs.Carried.{partly, partly-all, carry-skip, carry-put, view-skips, view-says, take-behind}
+use Rattle.baselines.proofs.Carried.{take-property}
 use borrow.Author.Needs.{needs}
 use Rattle.baselines.proofs.line.put_mentions.Statement.{statement}
 use Rattle.baselines.proofs.line.put_mentions.Tie as tie

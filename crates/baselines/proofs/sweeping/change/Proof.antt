@@ -30,7 +30,8 @@ module _ (c : tie.After-row-known) where
 
   -- the life end that the line of the BASELINE tells
   gone-is : c .before .before .before .before .before .before .if1 .gone
-      ≡ cond (sameInstant (start c .args .s .begin) (start c .args .t)) (start c .args .s .gone) (newTime (life .end) (start c .args .s .gone))
+      ≡ cond (sameInstant (start c .args .s .begin) (start c .args .t)) (start c .args .s .gone) (newTime (life .end) (start c
+      .args .s .gone))
   gone-is =
       let q = begun c .is .ensures in
       ⊎-elim
@@ -46,7 +47,8 @@ module _ (c : tie.After-row-known) where
   left-is =
       ⊎-elim
       (λ (i, u, e). e ∙ u .ensures
-      ∙ ap (λ (l : Life). newTime (l .end) (start c .args .s .left)) (lived c .life-of .ensures) ∙ sym (rw (ne-eqb _ _ (i .taken))))
+      ∙ ap (λ (l : Life). newTime (l .end) (start c .args .s .left)) (lived c .life-of .ensures) ∙ sym (rw (ne-eqb _ _ (i
+      .taken))))
       (λ (i, e). e ∙ ap (λ (l : Life). l .end) (lived c .life-of .ensures) ∙ sym (rw (eq-eqb _ _ (i .left))))
       (c .before .before .before .before .if2 .came)
 

@@ -18,7 +18,8 @@ returns-2 : tie.Need-returns-2
 unfolding isKnown
 returns-2 c =
     let q = c .before .before .before in
-    let e : before (q .before .args .t) (q .before .args .s .end) ≡ false = sym (q .is-based .ensures) ∙ c .before .before .if1 .left in
+    let e : before (q .before .args .t) (q .before .args .s .end) ≡ false = sym (q .is-based .ensures) ∙ c .before .before .if1
+    .left in
     rw (c .precedes2 .ensures) (sym (rw e))
 
 pub is-known-spec : {M : Type 1} → statement M
