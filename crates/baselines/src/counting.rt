@@ -44,7 +44,7 @@ pub(crate) fn head(events: &[u64], at: usize) -> Instant
 }
 
 // The sweep behind the record of an event: a BASELINE that begins, or a PERMDELTA.
-pub(crate) fn pass(s: Sweep, record: &[u8], t: Instant) -> Sweep
+fn pass(s: Sweep, record: &[u8], t: Instant) -> Sweep
     requires { ⌜ s .openings ≤ 512 ⌝ }
     ensures { λ r. ⌜ r ≡ passedWith s (now («record» .entry)) t ⌝ }
 {

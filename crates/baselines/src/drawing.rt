@@ -8,14 +8,16 @@ ghost use Rattle.octets.specs.Writing.{bytesOf, pasted};
 ghost use Rattle.slice.specs.Record.{recordSize};
 ghost use Rattle.table.specs.Header.{strideOf};
 ghost use Rattle.history.specs.State.{State};
+ghost use Rattle.baselines.specs.Sweeping.{passedWith};
 ghost use Rattle.baselines.specs.Carried.{Carries, lineSize, recordOf, unknownState, GoesOn};
 ghost use Rattle.baselines.specs.Steps.{Sweepable, FitsIn, drawnRecord, DrawsKnown};
 ghost use Rattle.baselines.specs.Deriving.{derivedRecords};
 use crate::counting::head;
-use crate::counting::pass;
 use crate::line::apply;
 use crate::line::put_unknown;
 use crate::sweeping::Sweep;
+use crate::sweeping::begin_base;
+use crate::sweeping::change;
 use crate::sweeping::is_based;
 use crate::sweeping::is_known;
 use crate::sweeping::next_of;
@@ -87,18 +89,28 @@ fn draw_known(
     }
 }
 
-// Carries both lines on by the record of an event: a BASELINE begins its own; a PERMDELTA is applied to that
-// of the BASELINE that holds, unless it begins there too, and to that of the first opening, which it may be.
-fn carry(base: &mut [u8], line: &mut [u8], record: &[u8], stride: usize, s: Sweep, t: Instant)
+// Carries both lines on by the record of an event, and answers the sweep behind it: a BASELINE begins its own; a
+// PERMDELTA is applied to that of the BASELINE that holds, unless it begins there too, and to that of the first
+// opening, which it may be.
+fn carry(
+    base: &mut [u8],
+    line: &mut [u8],
+    record: &[u8],
+    stride: usize,
+    s: Sweep,
+    t: Instant,
+) -> Sweep
     requires { ⌜ (length (now base) ≡ lineSize stride)
-        × ((length (now line) ≡ lineSize stride) × (length (now «record») ≡ recordSize stride)) ⌝ }
-    ensures { λ _.
+        × ((length (now line) ≡ lineSize stride)
+        × ((length (now «record») ≡ recordSize stride) × (s .openings ≤ 512))) ⌝ }
+    ensures sweep { λ r. ⌜ r ≡ passedWith s (now («record» .entry)) t ⌝ }
+    ensures lines { λ _.
         ⌜ GoesOn stride s (now («record» .entry)) t (now (base .entry)) (now (line .entry)) (now (base .exit))
         (now (line .exit)) ⌝ }
 {
     if byte(record, 0) == BASELINE {
         put(base, 0, record);
-        return;
+        return begin_base(s, record, t);
     }
     let begin = s.begin;
     if is_based(s, t) & !begin.is(t) {
@@ -109,6 +121,7 @@ fn carry(base: &mut [u8], line: &mut [u8], record: &[u8], stride: usize, s: Swee
     if (0 < s.openings) | !born.is_none() {
         apply(line, record, stride);
     }
+    change(s, record, t)
 }
 
 // Draws the records of the derived baselines of a sound table behind the header of an output, by the table's
@@ -139,8 +152,7 @@ fn draw_events(
             let place = place_of(events[at]);
             if place < 256 {
                 let record = record_at(permanent, size, place);
-                carry(base, line, record, stride, s, t);
-                s = pass(s, record, t);
+                s = carry(base, line, record, stride, s, t);
             }
             at += 1;
         } else {

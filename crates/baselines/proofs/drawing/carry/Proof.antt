@@ -15,8 +15,8 @@ use Rattle.slice.specs.declared.record.Life.{Life}
 use Rattle.history.specs.State.{applied}
 use Rattle.history.specs.Sweep.{Seen, changed}
 use Rattle.state.proofs.Slices.{view-eight}
-use Rattle.baselines.specs.Sweeping.{timesOf}
-use Rattle.baselines.specs.Carried.{Carries, recordOf, Turns, Lines, seenWith}
+use Rattle.baselines.specs.Sweeping.{timesOf, passedWith}
+use Rattle.baselines.specs.Carried.{Carries, recordOf, Turns, lineNow, Lines, seenWith}
 use Rattle.baselines.specs.declared.sweeping.Sweep.{Sweep}
 use Rattle.baselines.proofs.Carried.{record-first}
 use Rattle.baselines.proofs.Lines.{lines-begun, base-applied, base-kept, line-applied, line-kept, lines-changed}
@@ -29,19 +29,22 @@ start y = y .before .before .before .before
 
 -- ---- a BASELINE
 returns : tie.Need-returns
-unfolding viewOf
+unfolding viewOf passedWith
 returns c =
-    let p = c .before .before in
+    let p = c .before .before .before in
     let y = p .before .before .before in
     let s = start y in
     let a = s .args in
     let r = a .«record» .now in
-    let k = eq-eqb (viewOf (a .stride) r .kind) baseline (sym (y .byte .ensures) ∙ p .before .before .if1 .taken) in
-    λ v e same counted own h.
-    subst (λ (l : List ℕ). Lines (a .stride) (seenWith v (viewOf (a .stride) r)) (a .t) l (a .line .now))
-    (sym (p .put .ensures))
-    (lines-begun (a .stride) v (viewOf (a .stride) r) (a .t) (a .base .now) (a .line .now) (pasted (a .base .now) 0 r) k counted
-    (λ b. rw (record-first (a .stride) (a .base .now) r (s .pre .1 .1) (omega (arith, s .pre .0))) (own b)) h)
+    let k = eq-eqb (viewOf (a .stride) r .kind) baseline (sym (y .byte .ensures) ∙ p .before .before .if1 .taken) in (
+      c .begin-base .ensures ∙ sym (rw k),
+      λ v e same counted own h.
+          subst (λ (l : List ℕ). Lines (a .stride) (seenWith v (viewOf (a .stride) r)) (a .t) l (a .line .now))
+          (sym (p .put .ensures))
+          (lines-begun (a .stride) v (viewOf (a .stride) r) (a .t) (a .base .now) (a .line .now) (pasted (a .base .now) 0 r) k
+          counted
+          (λ b. rw (record-first (a .stride) (a .base .now) r (s .pre .1 .1 .0) (omega (arith, s .pre .0))) (own b)) h),
+    )
 
 -- ---- a PERMDELTA
 module _ (j : tie.Joined2) where
@@ -91,36 +94,46 @@ module _ (q : tie.After-is-none) where
       ∙ ap (λ (b : Bool). ltb 0 (s joined .args .s .openings) || not b)
       (sym (q .is-none .ensures ∙ ap (λ (l : Life). isNone (l .begin)) (q .before .before .before .life-of .ensures)))
 
-same-length-2 : tie.Need-same-length-2
-same-length-2 c = base-long (c .before .before .before .before .before .before .before .before .before)
+-- ---- behind both
+module _ (c : tie.After-change) where
+  abbrev asked : tie.After-is-none
+  asked = c .before .before
+
+  abbrev j : tie.Joined2
+  j = joined asked
+
+  line-long : length (c .before .if3 .line) ≡ length (s j .args .line .now)
+  line-long = ⊎-elim (λ (i, a, u, l, k, e). ap length e ∙ u .kept .0) (λ (i, e). ap length e) (c .before .if3 .came)
+
+  line-is : (v : Seen) → s j .args .s ≡ timesOf v
+      → Carries (s j .args .stride) (lineNow v) (recordOf (s j .args .stride) (s j .args .line .now))
+      → Carries (s j .args .stride) (lineNow (changed v (x j))) (recordOf (s j .args .stride) (c .before .if3 .line))
+  line-is v e h =
+      let a = s j .args in
+      ⊎-elim
+      (λ (i, z, u, l, k, q). line-applied (a .stride) v (x j) (a .line .now) (c .before .if3 .line)
+      (view-eight (a .stride) (a .«record» .now)) (opens asked v e ∙ i .taken)
+      (subst (Turns (a .stride) (λ w. applied w (x j)) (a .line .now)) (sym q) (u .ensures)) h)
+      (λ (i, q). subst (λ (l : List ℕ). Carries (a .stride) (lineNow (changed v (x j))) (recordOf (a .stride) l)) (sym q)
+      (line-kept (a .stride) v (x j) (a .line .now) (opens asked v e ∙ i .left) h))
+      (c .before .if3 .came)
 
 returns-2 : tie.Need-returns-2
+unfolding viewOf passedWith
 returns-2 c =
-    let q = c .before .before .before .before .before in
-    let j = joined q in
-    let a = s j .args in
-    λ v e same counted own h.
-    lines-changed (a .stride) v (x j) (a .t) (j .if2 .base) _ (kind-not j) (base-is j v e same h)
-    (line-applied (a .stride) v (x j) (a .line .now) _ (view-eight (a .stride) (a .«record» .now))
-    (opens q v e ∙ c .before .before .before .before .if3 .taken)
-    (c .before .before .apply2 .ensures) (h .opened))
-
-same-length-4 : tie.Need-same-length-4
-same-length-4 c = base-long (c .before .before .before .before .before)
-
-returns-3 : tie.Need-returns-3
-returns-3 c =
-    let q = c .before in
-    let j = joined q in
-    let a = s j .args in
-    λ v e same counted own h.
-    lines-changed (a .stride) v (x j) (a .t) (j .if2 .base) _ (kind-not j) (base-is j v e same h)
-    (line-kept (a .stride) v (x j) (a .line .now) (opens q v e ∙ c .if3 .left) (h .opened))
+    let a = s (j c) .args in (
+      c .change .ensures ∙ sym (rw (kind-not (j c))),
+      λ v e same counted own h.
+          lines-changed (a .stride) v (x (j c)) (a .t) (j c .if2 .base) (c .before .if3 .line) (kind-not (j c)) (base-is (j c) v e
+          same h)
+          (line-is c v e (h .opened)),
+    )
 
 pub carry-spec : {M : Type 1} → statement M
 carry-spec =
     tie.close
     (tie.spec
+    (λ c κs. search needs)
     (λ c κs. search needs)
     (λ c κs. search needs)
     (λ c. search needs)
@@ -131,8 +144,7 @@ carry-spec =
     (λ c κs. search needs)
     (λ c κs. search needs)
     (λ c κs. search needs)
-    same-length-2
-    (λ c. search needs)
-    returns-2
-    same-length-4
-    returns-3)
+    (λ c κs. search needs)
+    (λ c. base-long (j c))
+    line-long
+    returns-2)

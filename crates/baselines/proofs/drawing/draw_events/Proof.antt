@@ -184,14 +184,14 @@ carry-requires c κs =
     let k = c .before .before in
     let l = loop k in (
       inv l .base-long ∙ ap lineSize (strides l),
-      (inv l .line-long ∙ ap lineSize (strides l), record-long k ∙ ap recordSize (strides l)),
+      (
+        inv l .line-long ∙ ap lineSize (strides l),
+        (
+          record-long k ∙ ap recordSize (strides l),
+          going-few (p l) (bytes l) (sound l) _ _ _ _ _ (inv l .going) (go (passing k .before)),
+        ),
+      ),
     )
-
-pass-requires : tie.Need-pass-requires Inv-loop μ-loop
-pass-requires c κs =
-    let k = c .before .before .before .before .before .before .before in
-    let l = loop k in
-    going-few (p l) (bytes l) (sound l) _ _ _ _ _ (inv l .going) (go (passing k .before))
 
 loop-less : tie.Need-loop-less Inv-loop μ-loop
 loop-less c = omega (arith, within (c .before .before .before))
@@ -201,7 +201,7 @@ loop-again c =
     let t = c .before .before .before in
     let l = turn t in
     ⊎-elim
-    (λ (i, r, a, a′, k, b, n, m, o, q, eb, el, es). let d : tie.After-record-at Inv-loop μ-loop = record {
+    (λ (i, r, a, a′, k, b, n, m, o, eb, el, es). let d : tie.After-record-at Inv-loop μ-loop = record {
       before = record {
         before = c .before;
         if3 = i;
@@ -214,12 +214,12 @@ loop-again c =
     (record-is d)
     (subst (λ (n : ℕ). GoesOn n (l .loop .s) (r .result .now) (l .loop .t) (l .loop .base) (l .loop .line) (c .if3 .base) (c .if3
     .line))
-    (sym (strides l)) (rw (eb, el) (k .ensures))) in
+    (sym (strides l)) (rw (eb, el) (k .ensures .1))) in
     record {
       xs = sliceAt (p l) (place d) ∷ inv l .xs;
       done = inv l .done;
       going = going-record (p l) (bytes l) (sound l) _ _ _ _ _ (inv l .going) (go (t .before)) (now t) (low d) (c .if3 .s)
-          (es ∙ q .ensures ∙ ap (λ (x : List ℕ). passedWith (l .loop .s) x (l .loop .t)) (record-is d));
+          (es ∙ k .ensures .0 ∙ ap (λ (x : List ℕ). passedWith (l .loop .s) x (l .loop .t)) (record-is d));
       counted = inv l .counted;
       lines = on (seen (inv l .xs)) (inv l .going .told)
           (going-begins (p l) (bytes l) (sound l) _ _ _ _ _ (inv l .going) (go (t .before)) (now t) (low d))
@@ -413,7 +413,6 @@ draw-events-spec =
     (λ c κs. search needs)
     (λ c κs. search needs)
     carry-requires
-    pass-requires
     (λ c. omega (arith, within (c .before .before .before), few (c .before .before .before)))
     loop-less
     loop-again
