@@ -7,7 +7,7 @@ mod touches;
 
 use crate::fixtures::FEATURE;
 use crate::layout::RECORD_BYTES;
-use crate::library::{Library, Reply, ON_HEAP, PLAIN};
+use crate::library::{Library, Reply, ON_HEAP, PLAIN, WORDS, WORDS_SKIPPING};
 use crate::listing::MOST_BYTES;
 use std::fmt;
 use std::hint::black_box;
@@ -25,14 +25,25 @@ const TIME: Duration = Duration::from_micros(1500);
 /// The bytes that hold every listing.
 const TEXT: usize = 10_771;
 
-/// The plain programs: the one that the library is compared with, and the one that derives with a
-/// heap.
-const PLAINS: [(&str, &Library); 2] = [("", &PLAIN), ("; plain on the heap", &ON_HEAP)];
+/// A plain program, with the text that its lines add to the name of a scene.
+type Plain = (&'static str, &'static Library);
+
+/// The plain programs of derived baselines: the one that the library is compared with, and the one
+/// that derives with a heap.
+const DERIVING: [Plain; 2] = [("", &PLAIN), ("; plain on the heap", &ON_HEAP)];
+
+/// The plain programs of the calls that are mostly the check of properties: the one that the library
+/// is compared with, and those that check by three numbers and a table.
+const CHECKING: [Plain; 3] = [
+    ("", &PLAIN),
+    ("; plain words", &WORDS),
+    ("; plain words, zeros skipped", &WORDS_SKIPPING),
+];
 
 /// The head of the table.
 const HEAD: &str = "\
-| call                                              | records |   ours ns |  plain ns | ours/plain | ours ns a record | ours/pass |
-|---------------------------------------------------|--------:|----------:|----------:|-----------:|-----------------:|----------:|";
+| call                                                                  | records |   ours ns |  plain ns | ours/plain | ours ns a record | ours/pass |
+|-----------------------------------------------------------------------|--------:|----------:|----------:|-----------:|-----------------:|----------:|";
 
 /// The call to measure.
 #[derive(Clone)]
@@ -157,11 +168,12 @@ impl Use {
 }
 
 impl Scene {
-    /// Returns the plain programs, each with the text that its line adds to the name.
-    fn plains(&self) -> &'static [(&'static str, &'static Library)] {
+    /// Returns the plain programs that the library is measured against.
+    fn plains(&self) -> &'static [Plain] {
         match self.uses[0].call {
-            Call::Derive | Call::Listing => &PLAINS,
-            _ => &PLAINS[..1],
+            Call::NewTable => &CHECKING[..1],
+            Call::Derive | Call::Listing => &DERIVING,
+            _ => &CHECKING,
         }
     }
 
@@ -242,7 +254,7 @@ impl fmt::Display for Row {
         let (call, records, ratio) = (&self.call, self.records, ours / plain);
         write!(
             out,
-            "| {call:49} | {records:7} | {ours:9.1} | {plain:9.1} | {ratio:10.2} | "
+            "| {call:69} | {records:7} | {ours:9.1} | {plain:9.1} | {ratio:10.2} | "
         )?;
         match self.tables * records {
             0 => write!(out, "{:>16} | {:>9} |", "-", "-"),
@@ -302,15 +314,15 @@ mod tests {
         assert!(rows[0]
             .to_string()
             .ends_with("|       8.0 |       4.0 |       2.00 |                - |         - |"));
-        let rows = scenes.last().unwrap().rows(&[64.0, 1.0, 8.0], 2.0);
+        let times = [64.0, 1.0, 8.0, 4.0];
+        assert_eq!(scenes[1].rows(&times, 2.0).len(), 3);
+        let rows = scenes.last().unwrap().rows(&times, 2.0);
         assert_eq!(rows.len(), 2);
         assert!(rows[1]
             .to_string()
             .ends_with("|      64.0 |       8.0 |       8.00 |              4.0 |     32.00 |"));
         let width = HEAD.lines().next().unwrap().len();
-        let rows = scenes
-            .iter()
-            .flat_map(|scene| scene.rows(&[64.0, 1.0, 8.0], 2.0));
-        assert!(rows.into_iter().all(|row| row.to_string().len() == width));
+        let mut rows = scenes.iter().flat_map(|scene| scene.rows(&times, 2.0));
+        assert!(rows.all(|row| row.to_string().len() == width));
     }
 }

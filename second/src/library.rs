@@ -2,7 +2,7 @@
 
 use crate::arrival::Arrival;
 use crate::layout::PROPERTY_BYTES;
-use crate::plain;
+use crate::plain::{self, Check, Matched, Words};
 use crate::record::Side;
 use crate::refusal::Refusal;
 use crate::table::Feature;
@@ -32,34 +32,51 @@ pub struct Library {
     pub listing: fn(&[u8], &mut [u8]) -> Reply,
 }
 
-/// The plain program, which derives without a heap.
-pub const PLAIN: Library = Library {
-    new_table: |table, side, feature| Reply::of_writing(plain::new_table(table, side, feature)),
-    arrive: |table, slice| Reply::of_arrival(plain::arrive(table, slice)),
-    permanent_state: |permanent, instant, record| {
-        Reply::of_writing(plain::permanent_state(permanent, instant, record))
-    },
-    snapshot: |permanent, temporary, instant, record| {
-        Reply::of_writing(plain::snapshot([permanent, temporary], instant, record))
-    },
-    property: |permanent, temporary, instant, property| {
-        Reply::of_part(plain::property([permanent, temporary], instant, property))
-    },
-    touched: |temporary, instant, property| {
-        Reply::of_touched(plain::touched(temporary, instant, property))
-    },
-    derive: |permanent, output| Reply::of_derived(plain::derive(permanent, output)),
-    listing: |permanent, text| Reply::of_listing(plain::list(permanent, text, plain::derive)),
-};
+/// The plain program, which matches on the form of a property and derives without a heap.
+pub const PLAIN: Library = plain::<Matched>();
 
 /// The plain program that derives with a heap.
 pub const ON_HEAP: Library = Library {
-    derive: |permanent, output| Reply::of_derived(plain::derive_on_heap(permanent, output)),
+    derive: |permanent, output| {
+        Reply::of_derived(plain::derive_on_heap::<Matched>(permanent, output))
+    },
     listing: |permanent, text| {
-        Reply::of_listing(plain::list(permanent, text, plain::derive_on_heap))
+        let derive = plain::derive_on_heap::<Matched>;
+        Reply::of_listing(plain::list(permanent, text, derive))
     },
     ..PLAIN
 };
+
+/// The plain programs that check a property by three numbers and a table of the forms. One checks
+/// every property, the other skips those that are all zero.
+pub const WORDS: Library = plain::<Words<false>>();
+pub const WORDS_SKIPPING: Library = plain::<Words<true>>();
+
+/// Returns the plain program that checks properties in one way, and derives without a heap.
+const fn plain<C: Check>() -> Library {
+    Library {
+        new_table: |table, side, feature| Reply::of_writing(plain::new_table(table, side, feature)),
+        arrive: |table, slice| Reply::of_arrival(plain::arrive::<C>(table, slice)),
+        permanent_state: |permanent, instant, record| {
+            Reply::of_writing(plain::permanent_state::<C>(permanent, instant, record))
+        },
+        snapshot: |permanent, temporary, instant, record| {
+            let tables = [permanent, temporary];
+            Reply::of_writing(plain::snapshot::<C>(tables, instant, record))
+        },
+        property: |permanent, temporary, instant, property| {
+            let tables = [permanent, temporary];
+            Reply::of_part(plain::property::<C>(tables, instant, property))
+        },
+        touched: |temporary, instant, property| {
+            Reply::of_touched(plain::touched::<C>(temporary, instant, property))
+        },
+        derive: |permanent, output| Reply::of_derived(plain::derive::<C>(permanent, output)),
+        listing: |permanent, text| {
+            Reply::of_listing(plain::list(permanent, text, plain::derive::<C>))
+        },
+    }
+}
 
 impl Reply {
     /// Returns the reply of a kind, with a number: of a refusal, of records or of bytes.

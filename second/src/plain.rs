@@ -4,11 +4,13 @@
 
 mod derive;
 mod listing;
+mod part;
 mod state;
 mod sweep;
 
 pub use derive::{derive, derive_on_heap};
 pub use listing::list;
+pub use part::{Check, Matched, Words};
 pub use state::{permanent_state, property, snapshot, touched};
 
 use crate::arrival::Arrival;
@@ -38,9 +40,9 @@ pub fn new_table(table: &mut [u8], side: u8, feature: &Feature) -> Result<(), Re
 }
 
 /// Delivers a slice to a table.
-pub fn arrive(table: &mut [u8], slice: &[u8]) -> Result<Arrival, Refusal> {
-    let count = check_table(table, 0..=1)?.len();
-    let record = check_slice(slice, &table[8..24], table[3])?;
+pub fn arrive<C: Check>(table: &mut [u8], slice: &[u8]) -> Result<Arrival, Refusal> {
+    let count = check_table::<C>(table, 0..=1)?.len();
+    let record = check_slice::<C>(slice, &table[8..24], table[3])?;
     let (records, _) = table[HEADER..].as_chunks_mut::<224>();
     let room = records.len().min(MOST);
     match records[..count].binary_search_by_key(&key(record), key) {
@@ -69,7 +71,7 @@ fn correct(stored: &mut Record, record: &Record) -> Result<Arrival, Refusal> {
 }
 
 /// Returns the records that a table of one of the sides counts, or the first refusal, 1 to 7.
-fn check_table(table: &[u8], sides: RangeInclusive<u8>) -> Result<&[Record], Refusal> {
+fn check_table<C: Check>(table: &[u8], sides: RangeInclusive<u8>) -> Result<&[Record], Refusal> {
     let (header, rest) = table.split_first_chunk::<HEADER>().ok_or(Refusal::Short)?;
     let side = header[3];
     if header[..3] != *b"TSL" || !sides.contains(&side) {
@@ -87,16 +89,16 @@ fn check_table(table: &[u8], sides: RangeInclusive<u8>) -> Result<&[Record], Ref
         return Err(Refusal::Count);
     }
     let records = &records[..count];
-    check_records(records, side)?;
+    check_records::<C>(records, side)?;
     Ok(records)
 }
 
 /// Returns 6 if a record is not sound, or else 7 if their keys do not ascend, in one pass.
-fn check_records(records: &[Record], side: u8) -> Result<(), Refusal> {
+fn check_records<C: Check>(records: &[Record], side: u8) -> Result<(), Refusal> {
     let mut is_rising = true;
     let mut last = 0;
     for record in records {
-        check_record(record, side).map_err(|_| Refusal::Record)?;
+        check_record::<C>(record, side).map_err(|_| Refusal::Record)?;
         // Every key of a sound record is above 0, since every kind is.
         is_rising &= last < key(record);
         last = key(record);
@@ -105,18 +107,22 @@ fn check_records(records: &[Record], side: u8) -> Result<(), Refusal> {
 }
 
 /// Returns the record of a slice, or the first refusal, 9 to 16.
-fn check_slice<'a>(slice: &'a [u8], feature: &[u8], side: u8) -> Result<&'a Record, Refusal> {
+fn check_slice<'a, C: Check>(
+    slice: &'a [u8],
+    feature: &[u8],
+    side: u8,
+) -> Result<&'a Record, Refusal> {
     let slice: &[u8; 240] = slice.try_into().map_err(|_| Refusal::Length)?;
     if slice[..16] != *feature {
         return Err(Refusal::Feature);
     }
     let record = slice.last_chunk().expect("240 bytes end with 224");
-    check_record(record, side)?;
+    check_record::<C>(record, side)?;
     Ok(record)
 }
 
 /// Returns the first refusal, 11 to 16, of a record, if any.
-fn check_record(record: &Record, side: u8) -> Result<(), Refusal> {
+fn check_record<C: Check>(record: &Record, side: u8) -> Result<(), Refusal> {
     let kind = record[0];
     if !matches!((side, kind), (0, 1 | 2) | (1, 3)) {
         return Err(Refusal::Kind);
@@ -128,7 +134,7 @@ fn check_record(record: &Record, side: u8) -> Result<(), Refusal> {
         let is_empty = record[8..24] == [255; 16] && record[32..] == [0; 192];
         return is_empty.then_some(()).ok_or(Refusal::Cancelled);
     }
-    let mentions = mentions(record).ok_or(Refusal::Layout)?;
+    let mentions = mentions::<C>(record).ok_or(Refusal::Layout)?;
     let times = [8, 12, 16, 20].map(|at| number(record, at));
     if !times_are_right(kind, times) {
         return Err(Refusal::Times);
@@ -143,36 +149,16 @@ fn check_record(record: &Record, side: u8) -> Result<(), Refusal> {
 }
 
 /// Returns how many properties of a record are mentioned, if all of them keep the layout.
-fn mentions(record: &Record) -> Option<usize> {
+fn mentions<C: Check>(record: &Record) -> Option<usize> {
     let (parts, _) = record[32..].as_chunks();
     let mut mentions = 0;
     for part in parts {
-        if !is_sound(part) {
+        if !C::is_sound(part) {
             return None;
         }
         mentions += usize::from(part[0] != 0);
     }
     Some(mentions)
-}
-
-/// Returns whether a property keeps the layout.
-fn is_sound(part: &Part) -> bool {
-    let (words, _) = part.as_chunks();
-    let [head, first, second] = [0, 1, 2].map(|index| u64::from_be_bytes(words[index]));
-    if head << 16 != 0 {
-        return false;
-    }
-    match (part[0], part[1]) {
-        (0, 0) | (1, 1..=5) => first == 0 && second == 0,
-        (2, 0) => first << 16 == 0 && second == 0,
-        (3, 0) => first << 32 == 0 && second == 0,
-        (4, 1..=4) => f64::from_bits(first).is_finite() && second == 0,
-        (5, 0) => {
-            (-90.0..=90.0).contains(&f64::from_bits(first))
-                && (-180.0..=180.0).contains(&f64::from_bits(second))
-        }
-        _ => false,
-    }
 }
 
 /// Returns whether begin, end, life begin and life end are right for a kind.

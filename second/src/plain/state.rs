@@ -1,5 +1,6 @@
 //! The questions about an instant, by one pass over the records of each table.
 
+use super::part::Check;
 use super::{check_table, number, Part, Record, HEADER, NONE};
 use crate::record::Side;
 use crate::refusal::Refusal;
@@ -51,8 +52,12 @@ struct Line<'a> {
 }
 
 /// Writes the permanent state at an instant.
-pub fn permanent_state(permanent: &[u8], instant: u32, record: &mut [u8]) -> Result<(), Refusal> {
-    let records = check_table(permanent, 0..=0)?;
+pub fn permanent_state<C: Check>(
+    permanent: &[u8],
+    instant: u32,
+    record: &mut [u8],
+) -> Result<(), Refusal> {
+    let records = check_table::<C>(permanent, 0..=0)?;
     let record = check_asked(instant, record)?;
     let (life, parts) = state_at(by_kind(records), instant)?;
     write(record, STATE, [instant, NONE, life[0], life[1]], &parts);
@@ -60,8 +65,12 @@ pub fn permanent_state(permanent: &[u8], instant: u32, record: &mut [u8]) -> Res
 }
 
 /// Writes the snapshot at an instant.
-pub fn snapshot(tables: [&[u8]; 2], instant: u32, record: &mut [u8]) -> Result<(), Refusal> {
-    let [lasting, passing] = check_tables(tables)?;
+pub fn snapshot<C: Check>(
+    tables: [&[u8]; 2],
+    instant: u32,
+    record: &mut [u8],
+) -> Result<(), Refusal> {
+    let [lasting, passing] = check_tables::<C>(tables)?;
     let record = check_asked(instant, record)?;
     let (life, mut parts) = state_at(by_kind(lasting), instant)?;
     for delta in passing.iter().filter(|delta| holds(delta, instant)) {
@@ -76,8 +85,8 @@ pub fn snapshot(tables: [&[u8]; 2], instant: u32, record: &mut [u8]) -> Result<(
 }
 
 /// Returns the table whose record mentions a property last, and the offset of its bytes.
-pub fn property(tables: [&[u8]; 2], instant: u32, number: u8) -> Result<Place, Refusal> {
-    let [lasting, passing] = check_tables(tables)?;
+pub fn property<C: Check>(tables: [&[u8]; 2], instant: u32, number: u8) -> Result<Place, Refusal> {
+    let [lasting, passing] = check_tables::<C>(tables)?;
     let property = check_property(instant, number)?;
     let last = Line::at(by_kind(lasting), instant)?.last_mention(property)?;
     let place = |index: usize| HEADER + 224 * index + 32 + 24 * property;
@@ -94,8 +103,8 @@ pub fn property(tables: [&[u8]; 2], instant: u32, number: u8) -> Result<Place, R
 
 /// Returns whether a TEMPDELTA of the instant mentions a property. Goes from the last record
 /// downward, and stops at the first one that does.
-pub fn touched(temporary: &[u8], instant: u32, number: u8) -> Result<Touched, Refusal> {
-    let passing = check_table(temporary, 1..=1)?;
+pub fn touched<C: Check>(temporary: &[u8], instant: u32, number: u8) -> Result<Touched, Refusal> {
+    let passing = check_table::<C>(temporary, 1..=1)?;
     let property = check_property(instant, number)?;
     let last = last_touch(passing, instant, property);
     Ok(Touched {
@@ -123,9 +132,9 @@ fn by_kind(records: &[Record]) -> [&[Record]; 2] {
 }
 
 /// Returns the records of both tables, or the first refusal, 1 to 8.
-fn check_tables([permanent, temporary]: [&[u8]; 2]) -> Result<[&[Record]; 2], Refusal> {
-    let lasting = check_table(permanent, 0..=0)?;
-    let passing = check_table(temporary, 1..=1)?;
+fn check_tables<C: Check>([permanent, temporary]: [&[u8]; 2]) -> Result<[&[Record]; 2], Refusal> {
+    let lasting = check_table::<C>(permanent, 0..=0)?;
+    let passing = check_table::<C>(temporary, 1..=1)?;
     if permanent[8..24] != temporary[8..24] {
         return Err(Refusal::OtherFeature);
     }
