@@ -10,10 +10,8 @@ use Rattle.octets.proofs.be32.Kinds as be32-k
 use Rattle.octets.proofs.be32.Reads as be32
 use Rattle.octets.proofs.be64.Kinds as be64-k
 use Rattle.octets.proofs.be64.Reads as be64
-use Rattle.octets.proofs.blank_past_two.Kinds as blank-past-two-k
-use Rattle.octets.proofs.blank_past_two.Reads as blank-past-two
-use Rattle.octets.proofs.blank_past_four.Kinds as blank-past-four-k
-use Rattle.octets.proofs.blank_past_four.Reads as blank-past-four
+use Rattle.octets.proofs.le64.Kinds as le64-k
+use Rattle.octets.proofs.le64.Reads as le64
 use Rattle.octets.proofs.blank8.Kinds as blank8-k
 use Rattle.octets.proofs.blank8.Reads as blank8
 use Rattle.octets.proofs.full8.Kinds as full8-k
@@ -43,11 +41,8 @@ be32-one κs a = (tt, λ z z' ws ws' p q. (same p q, refl))
 pub be64-one : OneAnswer be64-k.ps be64-k.r be64.Asked be64.Learnt
 be64-one κs a = (tt, λ z z' ws ws' p q. (same p q, refl))
 
-pub blank-past-two-one : OneAnswer blank-past-two-k.ps blank-past-two-k.r blank-past-two.Asked blank-past-two.Learnt
-blank-past-two-one κs a = (tt, λ z z' ws ws' p q. (same p q, refl))
-
-pub blank-past-four-one : OneAnswer blank-past-four-k.ps blank-past-four-k.r blank-past-four.Asked blank-past-four.Learnt
-blank-past-four-one κs a = (tt, λ z z' ws ws' p q. (same p q, refl))
+pub le64-one : OneAnswer le64-k.ps le64-k.r le64.Asked le64.Learnt
+le64-one κs a = (tt, λ z z' ws ws' p q. (same p q, refl))
 
 pub blank8-one : OneAnswer blank8-k.ps blank8-k.r blank8.Asked blank8.Learnt
 blank8-one κs a = (tt, λ z z' ws ws' p q. (same p q, refl))

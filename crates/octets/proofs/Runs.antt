@@ -1,5 +1,5 @@
 -- Laws of runs of bytes: a run is told by the number that it makes. Assumes nothing.
-use Prim.Native.Nat.{ℕ, zero, suc, _+_, _*_, _-_, _^_, _≤_, _<_}
+use Prim.Native.Nat.{ℕ, zero, suc, _+_, _*_, _-_, _^_, _/_, _%_, _≤_, _<_}
 use mathlib.Core.Path.{_≡_, refl, sym, _∙_, ap}
 use mathlib.Core.List.{List}
 use mathlib.Core.Bool.{Bool, true, false, _&&_, and-assoc, and-true, and-false}
@@ -10,7 +10,7 @@ use lib.Seq.{ext-getD, getD-drop}
 use lib.Dec.{leb, ltb, eqb}
 use borrow.Author.Tests.{le-leb, eq-eqb, leb-true, eqb-true, eqb-false}
 use Rattle.laws.proofs.Tests.{tests, iff, by-test, and-both}
-use Rattle.octets.specs.Bytes.{byteOf, Bytes, digits, each, there, leOf, filled, sameBytes}
+use Rattle.octets.specs.Bytes.{byteOf, Bytes, digits, each, there, beOf, leOf, filled, sameBytes}
 use Rattle.octets.proofs.Readers.{le-whole, digits-below}
 
 -- ---- runs
@@ -100,7 +100,7 @@ each-mirror test k n m at last = iff _ _ there-and back
         rw e at (each-at test n (at + k) h (n - 1 - i) (omega arith)))
 
 -- the number of n digits and of k more behind them
-digits-join : (f : ℕ → ℕ) (n k at : ℕ) → digits f (n + k) at ≡ digits f n at * 256 ^ k + digits f k (at + n)
+pub digits-join : (f : ℕ → ℕ) (n k at : ℕ) → digits f (n + k) at ≡ digits f n at * 256 ^ k + digits f k (at + n)
 digits-join f n zero at = rw (add-zero n) (omega arith)
 digits-join f n (suc k) at =
     let e : n + suc k ≡ suc (n + k) = omega arith in
@@ -142,7 +142,7 @@ module _ (s : List ℕ) (at : ℕ) (bytes : Bytes s) (h : at + 8 ≤ length s) w
   low-same t bytes' h' = rw (le-whole 8 t at h') (low (byteOf t) bytes')
 
   -- the last n of them are 0, from k behind on
-  past : (k n : ℕ) → 8 ≡ k + n → ltb (leOf 8 s at) (256 ^ k) ≡ filled 0 n s (at + k)
+  pub past : (k n : ℕ) → 8 ≡ k + n → ltb (leOf 8 s at) (256 ^ k) ≡ filled 0 n s (at + k)
   unfolding filled
   past k n e =
       let f : ℕ → ℕ = λ i. byteOf s (at + (7 - i)) in
@@ -164,23 +164,10 @@ filled-low v small s at bytes all told held r is =
     let h : there 8 s at ≡ true = sym told ∙ held in
     rw (is, h) (sym (low-is s at bytes (leb-true _ _ h) v small))
 
--- and so of the last n of them, from k behind on
-pub filled-past : (k n : ℕ) → 8 ≡ k + n → (s : List ℕ) (at : ℕ) → Bytes s → (all : Bool) → all ≡ there 8 s at → all ≡ true
-    → (r : ℕ) → r ≡ leOf 8 s at → ltb r (256 ^ k) ≡ filled 0 n s (at + k)
-filled-past k n e s at bytes all told held r is = rw is (past s at bytes (leb-true _ _ (sym told ∙ held)) k n e)
-
 -- n bytes that were found not to be there
 pub filled-short : (v n : ℕ) (s : List ℕ) (at : ℕ) (all : Bool) → all ≡ there n s at → all ≡ false → false ≡ filled v n s at
 unfolding filled
 filled-short v n s at all told failed = rw (sym told ∙ failed)
-
--- n bytes behind k others, where not all of these are there
-pub filled-not-there : (k n : ℕ) (s : List ℕ) (at : ℕ) (all : Bool) → all ≡ there (k + n) s at → all ≡ false
-    → false ≡ filled 0 n s (at + k)
-unfolding filled
-filled-not-there k n s at all told failed =
-    let e : at + (k + n) ≡ at + k + n = omega arith in
-    rw (sym (ap (λ (j : ℕ). leb j (length s)) e) ∙ (sym told ∙ failed))
 
 -- all of a list
 pub filled-whole : (v : ℕ) (s : List ℕ) → filled v (length s) s 0 ≡ each (λ i. eqb (byteOf s i) v) (length s) 0
@@ -234,3 +221,43 @@ filled-drop v n s k at h =
     rw there-same (ap (λ (b : Bool). leb (k + at + n) (length s) && b)
     (each-shift (λ i. eqb (byteOf (drop k s) i) v) (λ i. eqb (byteOf s i) v) k
     (λ i. ap (λ (x : ℕ). eqb x v) (getD-drop k s i 0)) n at))
+
+-- ---- a number of eight bytes, turned around
+quot : (y b : ℕ) → b < 256 → (y * 256 + b) / 256 ≡ y
+quot y b h = omega arith
+
+rest : (y b : ℕ) → b < 256 → (y * 256 + b) % 256 ≡ b
+rest y b h = omega arith
+
+abbrev pub turn : ℕ → ℕ
+turn a =
+    a % 256 * 0x100_0000_0000_0000 + a / 256 % 256 * 0x1_0000_0000_0000 + a / 256 / 256 % 256 * 0x100_0000_0000
+    + a / 256 / 256 / 256 % 256 * 0x1_0000_0000 + a / 256 / 256 / 256 / 256 % 256 * 0x100_0000
+    + a / 256 / 256 / 256 / 256 / 256 % 256 * 0x1_0000 + a / 256 / 256 / 256 / 256 / 256 / 256 % 256 * 0x100
+    + a / 256 / 256 / 256 / 256 / 256 / 256 / 256 % 256
+
+turn-digits : (f : ℕ → ℕ) → ((i : ℕ) → f i < 256) → turn (digits (λ i. f (7 - i)) 8 0) ≡ digits f 8 0
+turn-digits f h =
+    rw (
+      quot _ _ (h 0),
+      rest _ _ (h 0),
+      quot _ _ (h 1),
+      rest _ _ (h 1),
+      quot _ _ (h 2),
+      rest _ _ (h 2),
+      quot _ _ (h 3),
+      rest _ _ (h 3),
+      quot _ _ (h 4),
+      rest _ _ (h 4),
+      quot _ _ (h 5),
+      rest _ _ (h 5),
+      quot _ _ (h 6),
+      rest _ _ (h 6),
+      rest _ _ (h 7),
+    ) (omega arith)
+
+pub turn-told : (s : List ℕ) (at : ℕ) → Bytes s → turn (leOf 8 s at) ≡ beOf 8 s at
+unfolding leOf beOf
+turn-told s at bytes =
+    by-test (there 8 s at) (λ e. rw e (turn-digits (λ i. byteOf s (at + i)) (λ i. bytes (at + i))))
+    (λ e. rw e)

@@ -58,23 +58,31 @@ pub fn be32(s: &[u8], at: usize) -> u32
     four(s[at], s[at + 1], s[at + 2], s[at + 3])
 }
 
-// The number of eight bytes at `at`, or 0 unless all are there.
+// The number of eight bytes at `at`, or 0 unless all are there: the number that they make with the lowest
+// byte first, turned around, which the compiler does by one instruction.
 pub fn be64(s: &[u8], at: usize) -> u64
     ensures { λ r. ⌜ r ≡ beOf 8 (now (s .entry)) at ⌝ }
 {
-    if s.len() < 8 {
-        return 0;
-    }
-    if s.len() - 8 < at {
-        return 0;
-    }
-    let high = four(s[at], s[at + 1], s[at + 2], s[at + 3]);
-    let low = four(s[at + 4], s[at + 5], s[at + 6], s[at + 7]);
-    (high as u64) * 4294967296 + (low as u64)
+    let a = le64(s, at);
+    let b = a / 256;
+    let c = b / 256;
+    let d = c / 256;
+    let e = d / 256;
+    let f = e / 256;
+    let g = f / 256;
+    let h = g / 256;
+    (a % 256) * 0x100_0000_0000_0000
+        + (b % 256) * 0x1_0000_0000_0000
+        + (c % 256) * 0x100_0000_0000
+        + (d % 256) * 0x1_0000_0000
+        + (e % 256) * 0x100_0000
+        + (f % 256) * 0x1_0000
+        + (g % 256) * 0x100
+        + h % 256
 }
 
 // The number of eight bytes at `at`, the lowest byte first, or 0 unless all are there.
-fn le64(s: &[u8], at: usize) -> u64
+pub fn le64(s: &[u8], at: usize) -> u64
     ensures { λ r. ⌜ r ≡ leOf 8 (now (s .entry)) at ⌝ }
 {
     if s.len() < 8 {
@@ -104,28 +112,6 @@ pub fn blank8(s: &[u8], at: usize) -> bool
 {
     if has(s, at, 8) {
         le64(s, at) == 0
-    } else {
-        false
-    }
-}
-
-// Whether the eight bytes at `at` are there and the last six of them are 0.
-pub fn blank_past_two(s: &[u8], at: usize) -> bool
-    ensures { λ r. ⌜ r ≡ filled 0 6 (now (s .entry)) (at + 2) ⌝ }
-{
-    if has(s, at, 8) {
-        le64(s, at) < 65536
-    } else {
-        false
-    }
-}
-
-// Whether the eight bytes at `at` are there and the last four of them are 0.
-pub fn blank_past_four(s: &[u8], at: usize) -> bool
-    ensures { λ r. ⌜ r ≡ filled 0 4 (now (s .entry)) (at + 4) ⌝ }
-{
-    if has(s, at, 8) {
-        le64(s, at) < 4294967296
     } else {
         false
     }

@@ -1,4 +1,6 @@
 pub mod Value
 pub mod Layout
+pub mod Forms
+pub mod Limits
 pub mod Eight
 pub mod Examples

@@ -2,27 +2,25 @@
 // record's eight properties. Each function answers for every slice, and none asks anything of its caller.
 ghost use mathlib.Core.Path.{_≡_};
 ghost use mathlib.Core.Bool.{_&&_};
-ghost use Prim.Native.Nat.{_≤_};
+ghost use Prim.Native.Nat.{_≤_, _<_, _+_, _*_};
 ghost use lib.ListN.{length, drop};
 ghost use lib.Dec.{eqb, leb};
-ghost use Rattle.octets.specs.Bytes.{byteOf, filled};
-ghost use Rattle.property.specs.Value.{isMention, mentions};
-ghost use Rattle.property.specs.Layout.{unused, signed, only, withDetail, nils, inUnits, unmentionedOf, nilOf, codeOf};
-ghost use Rattle.property.specs.Layout.{numberOf, lengthOf, pointOf, formReading, decodeOf};
-ghost use Rattle.property.specs.Eight.{isGood, surveyOf};
+ghost use Rattle.octets.specs.Bytes.{byteOf, leOf, filled};
+ghost use Rattle.property.specs.Value.{isMention};
+ghost use Rattle.property.specs.Layout.{signed, decodeOf};
+ghost use Rattle.property.specs.Forms.{nilAt, unitAt, heldOf, inRange, rightOf};
+ghost use Rattle.property.specs.Limits.{mostOf, laterOf, limitsOf, limitsFor, allLimits, fitsOf, readingOf};
+ghost use Rattle.property.specs.Eight.{isGood, wholeIn, surveyOf};
 
 mod double;
 
 use crate::double::double;
 use crate::double::is_finite;
 use crate::double::within;
-use octets::be16;
-use octets::be32;
 use octets::be64;
-use octets::blank_past_four;
-use octets::blank_past_two;
 use octets::blank8;
 use octets::byte;
+use octets::le64;
 
 // The unit of a length.
 pub enum LengthUnit {
@@ -67,72 +65,110 @@ pub enum Survey {
     Mentions(usize),
 }
 
-// d where the test holds.
-fn kept(ok: bool, d: Decoded) -> Decoded
-    ensures { λ r. ⌜ r ≡ only ok d ⌝ }
-{
-    if ok { d } else { Decoded::Broken }
+// What a form may use: the least and the greatest detail, and how many content bytes.
+pub struct Row(pub u8, pub u8, pub u8);
+
+// The forms, one row each. What a row leaves unused is zero.
+const FORMS: [Row; 6] = [
+    Row(0, 0, 0), // 0 not mentioned
+    Row(1, 5, 0), // 1 nil: 1 inapplicable, 2 missing, 3 template, 4 unknown, 5 withheld
+    Row(0, 0, 2), // 2 code
+    Row(0, 0, 4), // 3 whole number
+    Row(1, 4, 8), // 4 length: 1 M, 2 FT, 3 KM, 4 NM
+    Row(0, 0, 16), // 5 point
+];
+
+// A row as limits of numbers: of the detail, and of eight bytes of content and eight more, each read
+// with the lowest byte first, so that bytes that are zero make it small.
+pub struct Limits {
+    pub least: u64,
+    pub greatest: u64,
+    pub first: u64,
+    pub second: u64,
 }
 
-// Whether bytes 12 to 23 are zero.
-fn unused_from_12(p: &[u8]) -> bool
-    ensures { λ r. ⌜ r ≡ unused 12 23 (now (p .entry)) ⌝ }
+// The greatest number of n bytes, and of 8 where n is more.
+fn most(n: u8) -> u64
+    ensures { λ r. ⌜ r ≡ mostOf n ⌝ }
 {
-    blank_past_four(p, 8) & blank8(p, 16)
-}
-
-// Whether bytes 10 to 23 are zero.
-fn unused_from_10(p: &[u8]) -> bool
-    ensures { λ r. ⌜ r ≡ unused 10 23 (now (p .entry)) ⌝ }
-{
-    blank_past_two(p, 8) & blank8(p, 16)
-}
-
-// Whether bytes 8 to 23 are zero.
-fn unused_from_8(p: &[u8]) -> bool
-    ensures { λ r. ⌜ r ≡ unused 8 23 (now (p .entry)) ⌝ }
-{
-    blank8(p, 8) & blank8(p, 16)
-}
-
-// Form 0: not mentioned.
-fn unmentioned(p: &[u8]) -> Decoded
-    ensures { λ r. ⌜ r ≡ unmentionedOf (now (p .entry)) ⌝ }
-{
-    let plain = byte(p, 1) == 0;
-    kept(plain & unused_from_8(p), Decoded::Good(Value::Unmentioned))
-}
-
-// The nil of a detail.
-fn nil_of(detail: u8) -> Decoded
-    ensures { λ r. ⌜ r ≡ withDetail detail nils ⌝ }
-{
-    match detail {
-        1 => Decoded::Good(Value::Inapplicable),
-        2 => Decoded::Good(Value::Missing),
-        3 => Decoded::Good(Value::Template),
-        4 => Decoded::Good(Value::Unknown),
-        5 => Decoded::Good(Value::Withheld),
-        _ => Decoded::Broken,
+    match n {
+        0 => 0,
+        1 => 0xff,
+        2 => 0xffff,
+        3 => 0xff_ffff,
+        4 => 0xffff_ffff,
+        5 => 0xff_ffff_ffff,
+        6 => 0xffff_ffff_ffff,
+        7 => 0xff_ffff_ffff_ffff,
+        _ => 0xffff_ffff_ffff_ffff,
     }
 }
 
-// Form 1: nil.
-fn nil(p: &[u8]) -> Decoded
-    ensures { λ r. ⌜ r ≡ nilOf (now (p .entry)) ⌝ }
+// How many of n bytes are past the eighth.
+fn later(n: u8) -> u8
+    ensures { λ r. ⌜ r ≡ laterOf n ⌝ }
 {
-    kept(unused_from_8(p), nil_of(byte(p, 1)))
+    if n < 8 { 0 } else { n - 8 }
 }
 
-// Form 2: a code.
-fn code(p: &[u8]) -> Decoded
-    ensures { λ r. ⌜ r ≡ codeOf (now (p .entry)) ⌝ }
+// The limits of a row.
+fn limits_of(row: Row) -> Limits
+    ensures { λ r. ⌜ r ≡ limitsOf row ⌝ }
 {
-    let plain = byte(p, 1) == 0;
-    kept(
-        plain & unused_from_10(p),
-        Decoded::Good(Value::Code(be16(p, 8))),
-    )
+    Limits {
+        least: row.0 as u64,
+        greatest: row.1 as u64,
+        first: most(row.2),
+        second: most(later(row.2)),
+    }
+}
+
+// The limits of every row.
+fn all_limits() -> [Limits; 6]
+    ensures { λ r. ⌜ r ≡ allLimits ⌝ }
+{
+    [
+        limits_of(FORMS[0]),
+        limits_of(FORMS[1]),
+        limits_of(FORMS[2]),
+        limits_of(FORMS[3]),
+        limits_of(FORMS[4]),
+        limits_of(FORMS[5]),
+    ]
+}
+
+// Whether three numbers of eight bytes keep limits. The first is form, detail and six bytes that are
+// to be zero.
+fn fits(l: Limits, head: u64, first: u64, second: u64) -> bool
+    ensures { λ r. ⌜ r ≡ fitsOf l head first second ⌝ }
+{
+    let detail = head / 256;
+    (l.least <= detail) & ((detail <= l.greatest) & ((first <= l.first) & (second <= l.second)))
+}
+
+// The nil of a detail.
+fn nil_of(detail: u8) -> Value
+    ensures { λ r. ⌜ r ≡ nilAt detail ⌝ }
+{
+    match detail {
+        1 => Value::Inapplicable,
+        2 => Value::Missing,
+        3 => Value::Template,
+        4 => Value::Unknown,
+        _ => Value::Withheld,
+    }
+}
+
+// The unit of a detail.
+fn unit_of(detail: u8) -> LengthUnit
+    ensures { λ r. ⌜ r ≡ unitAt detail ⌝ }
+{
+    match detail {
+        1 => LengthUnit::M,
+        2 => LengthUnit::FT,
+        3 => LengthUnit::KM,
+        _ => LengthUnit::NM,
+    }
 }
 
 // 32 bits in two's complement.
@@ -146,68 +182,66 @@ fn signed_of(n: u32) -> i32
     }
 }
 
-// Form 3: a whole number.
-fn number(p: &[u8]) -> Decoded
-    ensures { λ r. ⌜ r ≡ numberOf (now (p .entry)) ⌝ }
+// The value of a form and a detail, and of the content as two numbers. What the layout asks is not
+// looked at.
+fn reading(form: u8, detail: u8, first: u64, second: u64) -> Value
+    ensures { λ r. ⌜ r ≡ readingOf form detail first second ⌝ }
 {
-    let plain = byte(p, 1) == 0;
-    let n = signed_of(be32(p, 8));
-    kept(plain & unused_from_12(p), Decoded::Good(Value::Number(n)))
-}
-
-// A length in the unit of a detail.
-fn in_unit(x: f64, detail: u8) -> Decoded
-    ensures { λ r. ⌜ r ≡ withDetail detail (inUnits x) ⌝ }
-{
-    match detail {
-        1 => Decoded::Good(Value::Length(x, LengthUnit::M)),
-        2 => Decoded::Good(Value::Length(x, LengthUnit::FT)),
-        3 => Decoded::Good(Value::Length(x, LengthUnit::KM)),
-        4 => Decoded::Good(Value::Length(x, LengthUnit::NM)),
-        _ => Decoded::Broken,
+    match form {
+        0 => Value::Unmentioned,
+        1 => nil_of(detail),
+        2 => Value::Code((first / 0x1_0000_0000_0000) as u16),
+        3 => Value::Number(signed_of((first / 0x1_0000_0000) as u32)),
+        4 => Value::Length(double(first), unit_of(detail)),
+        _ => Value::Point(Position {
+            latitude: double(first),
+            longitude: double(second),
+        }),
     }
 }
 
-// Form 4: a length.
-fn length_in_unit(p: &[u8]) -> Decoded
-    ensures { λ r. ⌜ r ≡ lengthOf (now (p .entry)) ⌝ }
+// The value that the 24 bytes of a property hold, whether or not they keep the layout.
+fn held(p: &[u8]) -> Value
+    requires { ⌜ length (now p) ≡ 24 ⌝ }
+    ensures { λ r. ⌜ r ≡ heldOf (now (p .entry)) ⌝ }
 {
-    let bits = be64(p, 8);
-    kept(
-        is_finite(bits) & blank8(p, 16),
-        in_unit(double(bits), byte(p, 1)),
-    )
+    reading(byte(p, 0), byte(p, 1), be64(p, 8), be64(p, 16))
 }
 
-// Form 5: a point.
-fn point(p: &[u8]) -> Decoded
-    ensures { λ r. ⌜ r ≡ pointOf (now (p .entry)) ⌝ }
+// Whether a latitude is from -90 to 90 and a longitude from -180 to 180.
+fn in_range(at: Position) -> bool
+    ensures { λ r. ⌜ r ≡ inRange at ⌝ }
 {
-    let plain = byte(p, 1) == 0;
-    let latitude = double(be64(p, 8));
-    let longitude = double(be64(p, 16));
-    kept(
-        plain & (within(latitude, 90.0) & within(longitude, 180.0)),
-        Decoded::Good(Value::Point(Position {
-            latitude,
-            longitude,
-        })),
-    )
+    within(at.latitude, 90.0) & within(at.longitude, 180.0)
 }
 
-// The value by the form in byte 0.
-fn by_form(p: &[u8]) -> Decoded
-    ensures { λ r. ⌜ r ≡ formReading (now (p .entry)) ⌝ }
+// Whether a value is one that a property may have: what no count of bytes can say.
+fn is_right(v: Value) -> bool
+    ensures { λ r. ⌜ r ≡ rightOf v ⌝ }
 {
-    let form = byte(p, 0);
-    match form {
-        0 => unmentioned(p),
-        1 => nil(p),
-        2 => code(p),
-        3 => number(p),
-        4 => length_in_unit(p),
-        5 => point(p),
-        _ => Decoded::Broken,
+    match v {
+        Value::Unmentioned => true,
+        Value::Inapplicable => true,
+        Value::Missing => true,
+        Value::Template => true,
+        Value::Unknown => true,
+        Value::Withheld => true,
+        Value::Code(_) => true,
+        Value::Number(_) => true,
+        Value::Length(x, _) => is_finite(x),
+        Value::Point(at) => in_range(at),
+    }
+}
+
+// Whether the 24 bytes of a property keep the layout, by the limits of its form's row.
+fn is_sound(l: Limits, p: &[u8]) -> bool
+    requires { ⌜ (byteOf (now p) 0 < 6) × ((l ≡ limitsFor (byteOf (now p) 0)) × (length (now p) ≡ 24)) ⌝ }
+    ensures { λ r. ⌜ r ≡ isGood (decodeOf (now (p .entry))) ⌝ }
+{
+    if fits(l, le64(p, 0), le64(p, 8), le64(p, 16)) {
+        is_right(held(p))
+    } else {
+        false
     }
 }
 
@@ -218,7 +252,15 @@ pub fn decode(p: &[u8]) -> Decoded
     if p.len() != 24 {
         return Decoded::Broken;
     }
-    kept(blank_past_two(p, 0), by_form(p))
+    let form = byte(p, 0) as usize;
+    if 6 <= form {
+        return Decoded::Broken;
+    }
+    if is_sound(limits_of(FORMS[form]), p) {
+        Decoded::Good(held(p))
+    } else {
+        Decoded::Broken
+    }
 }
 
 // Whether a value is a mention: each is but `Unmentioned`.
@@ -239,85 +281,25 @@ pub fn is_mention(v: Value) -> bool
     }
 }
 
-// Whether n is one of low to high.
-fn is_among(n: u16, low: u16, high: u16) -> bool
-    ensures { λ r. ⌜ r ≡ (leb low n && leb n high) ⌝ }
-{
-    (low <= n) & (n <= high)
-}
-
-// Whether form and detail are a nil's, and its layout is kept.
-fn is_nil(p: &[u8]) -> bool
-    requires { ⌜ length (now p) ≡ 24 ⌝ }
-    ensures { λ r. ⌜ r ≡ (eqb (byteOf (now (p .entry)) 0) 1 && isGood (nilOf (now (p .entry)))) ⌝ }
-{
-    is_among(be16(p, 0), 257, 261) & unused_from_8(p)
-}
-
-// Whether form and detail are a code's, and its layout is kept.
-fn is_code(p: &[u8]) -> bool
-    requires { ⌜ length (now p) ≡ 24 ⌝ }
-    ensures { λ r. ⌜ r ≡ (eqb (byteOf (now (p .entry)) 0) 2 && isGood (codeOf (now (p .entry)))) ⌝ }
-{
-    (be16(p, 0) == 512) & unused_from_10(p)
-}
-
-// Whether form and detail are a whole number's, and its layout is kept.
-fn is_number(p: &[u8]) -> bool
-    requires { ⌜ length (now p) ≡ 24 ⌝ }
-    ensures { λ r. ⌜ r ≡ (eqb (byteOf (now (p .entry)) 0) 3 && isGood (numberOf (now (p .entry)))) ⌝ }
-{
-    (be16(p, 0) == 768) & unused_from_12(p)
-}
-
-// Whether form and detail are a length's, and its layout is kept.
-fn is_length(p: &[u8]) -> bool
-    requires { ⌜ length (now p) ≡ 24 ⌝ }
-    ensures { λ r. ⌜ r ≡ (eqb (byteOf (now (p .entry)) 0) 4 && isGood (lengthOf (now (p .entry)))) ⌝ }
-{
-    is_among(be16(p, 0), 1025, 1028) & (is_finite(be64(p, 8)) & blank8(p, 16))
-}
-
-// Whether form and detail are a point's, and its layout is kept.
-fn is_point(p: &[u8]) -> bool
-    requires { ⌜ length (now p) ≡ 24 ⌝ }
-    ensures { λ r. ⌜ r ≡ (eqb (byteOf (now (p .entry)) 0) 5 && isGood (pointOf (now (p .entry)))) ⌝ }
-{
-    let latitude = double(be64(p, 8));
-    let longitude = double(be64(p, 16));
-    (be16(p, 0) == 1280) & (within(latitude, 90.0) & within(longitude, 180.0))
-}
-
-// Whether the 24 bytes of a property keep the layout and mention it.
-fn is_mentioned(p: &[u8]) -> bool
-    requires { ⌜ length (now p) ≡ 24 ⌝ }
-    ensures { λ r. ⌜ r ≡ (isGood (decodeOf (now (p .entry))) && mentions (byteOf (now (p .entry)) 0)) ⌝ }
-{
-    let reserved = blank_past_two(p, 0);
-    if reserved & (is_nil(p) | (is_code(p) | (is_number(p) | is_length(p)))) {
-        return true;
-    }
-    reserved & is_point(p)
-}
-
 // Whether the 24 bytes of a property are all zero, so that it is not mentioned.
 fn is_blank(p: &[u8]) -> bool
     ensures { λ r. ⌜ r ≡ (filled 0 8 (now (p .entry)) 0 && filled 0 16 (now (p .entry)) 8) ⌝ }
 {
-    blank8(p, 0) & unused_from_8(p)
+    blank8(p, 0) & (blank8(p, 8) & blank8(p, 16))
 }
 
-// The place `stride` bytes after `at`, or the end where that is nearer.
-fn past(bytes: &[u8], at: usize, stride: usize) -> usize
-    requires { ⌜ at ≤ length (now bytes) ⌝ }
-    ensures within { λ r. ⌜ r ≤ length (now (bytes .entry)) ⌝ }
-    ensures rest { λ r. ⌜ drop r (now (bytes .entry)) ≡ drop stride (drop at (now (bytes .entry))) ⌝ }
+// How many of eight properties of `stride` bytes each are all there.
+fn whole_in(len: usize, stride: usize) -> usize
+    ensures { λ r. ⌜ r ≡ wholeIn len stride ⌝ }
 {
-    if bytes.len() - at < stride {
-        bytes.len()
-    } else {
-        at + stride
+    if stride < 24 {
+        return 0;
     }
+    if len < 24 {
+        return 0;
+    }
+    let more = (len - 24) / stride;
+    if more < 7 { more + 1 } else { 8 }
 }
 
 // What the check of eight properties of `stride` bytes each finds. A property that is not all there
@@ -325,25 +307,27 @@ fn past(bytes: &[u8], at: usize, stride: usize) -> usize
 pub fn check_eight(bytes: &[u8], stride: usize) -> Survey
     ensures { λ r. ⌜ r ≡ surveyOf stride (now (bytes .entry)) ⌝ }
 {
-    if stride < 24 {
-        return Survey::FirstBad(0);
-    }
-    let mut at = 0;
+    let whole = whole_in(bytes.len(), stride);
+    let limits = all_limits();
     let mut mentioned = 0;
     let mut i = 0;
-    while i < 8 {
-        if bytes.len() - at < 24 {
-            return Survey::FirstBad(i);
-        }
+    while i < whole {
+        let at = i * stride;
         let end = at + 24;
         if !is_blank(&bytes[at..end]) {
-            if !is_mentioned(&bytes[at..end]) {
+            let form = byte(&bytes[at..end], 0) as usize;
+            if 6 <= form {
+                return Survey::FirstBad(i);
+            }
+            if !is_sound(limits[form], &bytes[at..end]) {
                 return Survey::FirstBad(i);
             }
             mentioned += 1;
         }
-        at = past(bytes, at, stride);
         i += 1;
+    }
+    if whole < 8 {
+        return Survey::FirstBad(whole);
     }
     Survey::Mentions(mentioned)
 }

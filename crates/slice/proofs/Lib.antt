@@ -13,3 +13,5 @@ pub mod Times
 pub mod View
 -- the check, one test after the other, as the code makes it
 pub mod Stages
+-- the check of records one behind the other, one record at a time
+pub mod Reviews

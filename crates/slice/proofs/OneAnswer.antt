@@ -7,6 +7,8 @@ use Rattle.slice.proofs.check.number_of.Kinds as number-of-k
 use Rattle.slice.proofs.check.number_of.Reads as number-of
 use Rattle.slice.proofs.check.check_record.Kinds as check-record-k
 use Rattle.slice.proofs.check.check_record.Reads as check-record
+use Rattle.slice.proofs.check.check_records.Kinds as check-records-k
+use Rattle.slice.proofs.check.check_records.Reads as check-records
 use Rattle.slice.proofs.check.check_slice.Kinds as check-slice-k
 use Rattle.slice.proofs.check.check_slice.Reads as check-slice
 use Rattle.slice.proofs.record.Key.precedes.Kinds as Key-precedes-k
@@ -35,6 +37,9 @@ number-of-one κs a = (tt, λ z z' ws ws' p q. (same p q, refl))
 
 pub check-record-one : OneAnswer check-record-k.ps check-record-k.r check-record.Asked check-record.Learnt
 check-record-one κs a = (tt, λ z z' ws ws' p q. (checked-told z z' (same p q), refl))
+
+pub check-records-one : OneAnswer check-records-k.ps check-records-k.r check-records.Asked check-records.Learnt
+check-records-one κs a = (tt, λ z z' ws ws' p q. (same p q, refl))
 
 pub check-slice-one : OneAnswer check-slice-k.ps check-slice-k.r check-slice.Asked check-slice.Learnt
 check-slice-one κs a = (tt, λ z z' ws ws' p q. (checked-told z z' (same p q), refl))

@@ -1,5 +1,5 @@
 -- The slice check, 9 to 16 (document 01, "Refusal numbers"). Assumes nothing.
-use Prim.Native.Nat.{ℕ, _*_}
+use Prim.Native.Nat.{ℕ, suc, _*_}
 use mathlib.Core.List.{List, [], _∷_}
 use mathlib.Core.Bool.{Bool, cond, not, _&&_}
 use lib.ListN.{length, take, drop}
@@ -15,6 +15,8 @@ use Rattle.slice.specs.Rules.{baselineTimes, permdeltaTimes, tempdeltaTi
 use Rattle.slice.specs.declared.check.Refusal.{Refusal}
 use Rattle.slice.specs.declared.check.Checked.{Checked}
 use Rattle.slice.specs.declared.check.Checked.the-variants.{Sound, Refused}
+use Rattle.slice.specs.declared.check.Review.{Review}
+use Rattle.slice.specs.declared.check.Review.the-variants.{AllSound, Failing}
 
 -- a refusal, in numbers
 abbrev pub refusalReply : Refusal → Reply
@@ -67,11 +69,23 @@ sliceTests stride feature side s =
 unfoldable pub checkRecord : ℕ → ℕ → List ℕ → Checked
 checkRecord stride side r = refuse refused (test 9 (not (eqb (length r) (recordSize stride))) ∷ recordTests stride side r) Sound
 
+-- of records one behind the other the first that is refused: its place, counted from i on, and its refusal
+abbrev pub stopped : ℕ → Checked → Review → Review
+stopped i Sound rest = rest
+stopped i (Refused f) rest = Failing i f
+
+abbrev pub reviewFrom : ℕ → ℕ → ℕ → List (List ℕ) → Review
+reviewFrom stride side i [] = AllSound
+reviewFrom stride side i (r ∷ rs) = stopped i (checkRecord stride side r) (reviewFrom stride side (suc i) rs)
+
+unfoldable pub reviewOf : ℕ → ℕ → List (List ℕ) → Review
+reviewOf stride side rs = reviewFrom stride side 0 rs
+
 unfoldable pub checkSlice : ℕ → List ℕ → ℕ → List ℕ → Checked
 checkSlice stride feature side s = refuse refused (sliceTests stride feature side s) Sound
 
 -- `unfolding checking` opens every definition that the check computes by
 unfoldable pub checking : Unit {0}
-unfolding reservedClear emptied countedTests recordTests sliceTests checkRecord checkSlice checkedReply numbers ofSide viewOf
+unfolding reservedClear emptied countedTests recordTests sliceTests checkRecord reviewOf checkSlice checkedReply numbers ofSide viewOf
     baselineTimes permdeltaTimes tempdeltaTimes timesOf timesRight contentOf contentRight sameBytes eight
 checking = tt

@@ -1,12 +1,13 @@
 // The slice check: rules 9 to 16, in their order.
 ghost use mathlib.Core.Path.{_≡_};
-ghost use Prim.Native.Nat.{_+_, _*_};
+ghost use Prim.Native.Nat.{_+_, _-_, _*_, _≤_};
 ghost use lib.Dec.{eqb};
-ghost use lib.ListN.{length};
+ghost use lib.ListN.{length, take, drop};
+ghost use Rattle.laws.specs.Lists.{pieces};
 ghost use Rattle.laws.specs.Refusals.{refuse};
 ghost use Rattle.slice.specs.Record.{recordSize};
 ghost use Rattle.slice.specs.Check.{checkedReply, numberOf, refused, reservedClear, emptied, countedTests, checkRecord};
-ghost use Rattle.slice.specs.Check.{checkSlice};
+ghost use Rattle.slice.specs.Check.{reviewOf, checkSlice};
 use crate::record::is_cancelled;
 use crate::record::life_of;
 use crate::record::period_of;
@@ -31,6 +32,13 @@ pub struct Refusal {
 pub enum Checked {
     Sound,
     Refused(Refusal),
+}
+
+// What the check of records that stand one behind the other finds: each is sound, or the place of the
+// first that is refused, and its refusal.
+pub enum Review {
+    AllSound,
+    Failing(usize, Refusal),
 }
 
 // The number of an answer: the refusal's own, and 0 where nothing is refused.
@@ -116,6 +124,39 @@ pub fn check_record(record: &[u8], stride: usize, side: u8) -> Checked
     Checked::Sound
 }
 
+// The place `size` bytes after `at`, or the end where that is nearer.
+fn past(bytes: &[u8], at: usize, size: usize) -> usize
+    requires { ⌜ at ≤ length (now bytes) ⌝ }
+    ensures order { λ r. ⌜ at ≤ r ⌝ }
+    ensures within { λ r. ⌜ r ≤ length (now (bytes .entry)) ⌝ }
+    ensures piece { λ r. ⌜ take (r - at) (drop at (now (bytes .entry))) ≡ take size (drop at (now (bytes .entry))) ⌝ }
+    ensures rest { λ r. ⌜ drop r (now (bytes .entry)) ≡ drop size (drop at (now (bytes .entry))) ⌝ }
+{
+    if bytes.len() - at < size {
+        bytes.len()
+    } else {
+        at + size
+    }
+}
+
+// Rules 11 to 16, on `count` records of `size` bytes, one behind the other, against a side. What is no
+// record of `stride` bytes a property is refused with 9.
+pub fn check_records(bytes: &[u8], size: usize, count: usize, stride: usize, side: u8) -> Review
+    ensures { λ r. ⌜ r ≡ reviewOf stride side (pieces size count (now (bytes .entry))) ⌝ }
+{
+    let mut at = 0;
+    let mut i = 0;
+    while i < count {
+        let end = past(bytes, at, size);
+        if let Checked::Refused(refusal) = check_record(&bytes[at..end], stride, side) {
+            return Review::Failing(i, refusal);
+        }
+        at = end;
+        i += 1;
+    }
+    Review::AllSound
+}
+
 // The slice check, rules 9 to 16, on a delivered slice of `stride` bytes a property, against a feature
 // and a side.
 pub fn check_slice(slice: &[u8], stride: usize, feature: &[u8], side: u8) -> Checked
@@ -127,5 +168,8 @@ pub fn check_slice(slice: &[u8], stride: usize, feature: &[u8], side: u8) -> Che
     if !same(&slice[0..16], feature) {
         return Checked::Refused(refusals::OTHER_FEATURE);
     }
-    check_record(&slice[16..], stride, side)
+    match check_records(&slice[16..], slice.len() - 16, 1, stride, side) {
+        Review::AllSound => Checked::Sound,
+        Review::Failing(_, refusal) => Checked::Refused(refusal),
+    }
 }

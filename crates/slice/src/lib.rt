@@ -7,7 +7,9 @@ mod rules;
 
 pub use check::Checked;
 pub use check::Refusal;
+pub use check::Review;
 pub use check::check_record;
+pub use check::check_records;
 pub use check::check_slice;
 pub use check::number_of;
 pub use record::BASELINE;

@@ -1,41 +1,37 @@
 -- The walks over the records of a table: what each finds from record i on. Assumes nothing.
 use Prim.Native.Nat.{ℕ, suc, _+_, _≤_, _<_}
-use mathlib.Core.Path.{_≡_, refl, ap}
-use mathlib.Core.List.{List}
-use mathlib.Core.Bool.{Bool, true, false, cond}
-use native.Mathlib.Nat.{zero-add, add-zero}
-use native.Mathlib.Omega.{arith}
+use mathlib.Core.Path.{_≡_, refl, _∙_, ap}
+use mathlib.Core.List.{List, [], _∷_}
+use mathlib.Core.Bool.{Bool, true, false, _||_}
 use lib.ListN.{drop}
-use Rattle.laws.specs.Lists.{any, first}
+use Rattle.laws.specs.Lists.{any}
 use Rattle.laws.specs.Keyed.{risesFrom}
 use Rattle.slice.specs.Record.{keyOf, keyLess, sameKey}
+use Rattle.slice.specs.Check.{checkRecord, stopped, reviewFrom, reviewOf}
 use Rattle.slice.specs.declared.record.Key.{Key}
+use Rattle.slice.specs.declared.check.Refusal.{Refusal}
+use Rattle.slice.specs.declared.check.Checked.{Checked}
+use Rattle.slice.specs.declared.check.Checked.the-variants.{Sound, Refused}
+use Rattle.slice.specs.declared.check.Review.{Review}
+use Rattle.slice.specs.declared.check.Review.the-variants.{AllSound, Failing}
 use Rattle.table.specs.Header.{countOf, roomOf, recordsOf, recordAt}
-use Rattle.table.specs.Rules.{fails, failing, inOrder}
-use Rattle.table.specs.declared.check.Found.{Found}
-use Rattle.table.specs.declared.check.Found.the-variants.{At, Nowhere}
+use Rattle.table.specs.Rules.{isRefused, fails, inOrder}
 use Rattle.table.proofs.Records.{rest-at, rest-end}
+
+-- a review stops at a record
+abbrev stops : Review → Bool
+stops AllSound = false
+stops (Failing i f) = true
 
 module _ (size : ℕ) (t : List ℕ) where
   abbrev left : ℕ → List (List ℕ)
   left i = drop i (recordsOf size t)
-
-  -- the first record that fails, from record i on
-  abbrev pub failingFrom : ℕ → ℕ → ℕ → Found
-  failingFrom stride side i = cond (any (fails stride side) (left i)) (At (i + first (fails stride side) (left i))) Nowhere
 
   -- the records rise from record i on, where k is the key of the one before
   abbrev pub risesOn : Key → ℕ → Bool
   risesOn k i = risesFrom keyOf keyLess sameKey k (left i)
 
   -- at the start and at the end
-  pub failing-start : (stride side : ℕ) → failing stride side (recordsOf size t) ≡ failingFrom stride side 0
-  unfolding failing
-  failing-start stride side = rw (zero-add (first (fails stride side) (recordsOf size t)))
-
-  pub failing-end : (stride side i : ℕ) → countOf t ≤ i → failingFrom stride side i ≡ Nowhere
-  failing-end stride side i h = rw (rest-end size t i h)
-
   pub order-none : countOf t ≤ 0 → inOrder (recordsOf size t) ≡ true
   unfolding inOrder
   order-none h = rw (rest-end size t 0 h)
@@ -45,17 +41,6 @@ module _ (size : ℕ) (t : List ℕ) where
 
   -- at record i
   module _ (roomy : countOf t ≤ roomOf size t) where
-    module _ (stride side : ℕ) where
-      pub failing-here : (i : ℕ) → i < countOf t → fails stride side (recordAt size i t) ≡ true → failingFrom stride side i ≡ At i
-      failing-here i h e = rw (rest-at size t i h roomy, e, add-zero)
-
-      pub failing-on : (i : ℕ) → i < countOf t → fails stride side (recordAt size i t) ≡ false
-          → failingFrom stride side i ≡ failingFrom stride side (i + 1)
-      failing-on i h e =
-          let n : i + suc (first (fails stride side) (left (i + 1))) ≡ i + 1 + first (fails stride side) (left (i + 1)) =
-          omega arith in
-          rw (rest-at size t i h roomy, e) (ap (λ (k : ℕ). cond (any (fails stride side) (left (i + 1))) (At k) Nowhere) n)
-
     pub order-start : 0 < countOf t → inOrder (recordsOf size t) ≡ risesOn (keyOf (recordAt size 0 t)) 1
     unfolding inOrder
     order-start h = rw (rest-at size t 0 h roomy)
@@ -67,20 +52,21 @@ module _ (size : ℕ) (t : List ℕ) where
         → risesOn k i ≡ risesOn (keyOf (recordAt size i t)) (i + 1)
     order-on k i h e = rw (rest-at size t i h roomy, e)
 
--- ---- what the search for a failing record tells
-found : (b : Bool) (i j : ℕ) → cond b (At i) Nowhere ≡ At j → b ≡ true
-found true i j e = refl
-found false i j e = cc
+-- ---- some record fails where the check of one after the other stops
+stop-told : (i : ℕ) (c : Checked) (b : Bool) (v : Review) → b ≡ stops v → (isRefused c || b) ≡ stops (stopped i c v)
+stop-told i Sound b v e = e
+stop-told i (Refused f) b v e = refl
 
-lost : (b : Bool) (i : ℕ) → cond b (At i) Nowhere ≡ Nowhere → b ≡ false
-lost true i e = cc
-lost false i e = refl
+review-any : (stride side i : ℕ) (rs : List (List ℕ)) → any (fails stride side) rs ≡ stops (reviewFrom stride side i rs)
+unfolding fails
+review-any stride side i [] = refl
+review-any stride side i (r ∷ rs) = stop-told i (checkRecord stride side r) _ _ (review-any stride side (suc i) rs)
 
 module _ (stride side : ℕ) (rs : List (List ℕ)) where
-  pub failing-at : (i : ℕ) → failing stride side rs ≡ At i → any (fails stride side) rs ≡ true
-  unfolding failing
-  failing-at i e = found (any (fails stride side) rs) _ i e
+  pub review-fails : (i : ℕ) (f : Refusal) → reviewOf stride side rs ≡ Failing i f → any (fails stride side) rs ≡ true
+  unfolding reviewOf
+  review-fails i f e = review-any stride side 0 rs ∙ ap stops e
 
-  pub failing-nowhere : failing stride side rs ≡ Nowhere → any (fails stride side) rs ≡ false
-  unfolding failing
-  failing-nowhere e = lost (any (fails stride side) rs) _ e
+  pub review-passes : reviewOf stride side rs ≡ AllSound → any (fails stride side) rs ≡ false
+  unfolding reviewOf
+  review-passes e = review-any stride side 0 rs ∙ ap stops e

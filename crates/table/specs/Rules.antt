@@ -1,10 +1,10 @@
 -- The check of a table, 1 to 7 (document 01, "Refusal numbers"). Assumes nothing.
 use Prim.Native.Nat.{ℕ}
 use mathlib.Core.List.{List, [], _∷_}
-use mathlib.Core.Bool.{Bool, true, false, cond, not, _&&_, _||_}
+use mathlib.Core.Bool.{Bool, true, false, not, _&&_, _||_}
 use lib.ListN.{length}
 use lib.Dec.{eqb, ltb}
-use Rattle.laws.specs.Lists.{any, first}
+use Rattle.laws.specs.Lists.{any}
 use Rattle.laws.specs.Keyed.{rises}
 use Rattle.laws.specs.Orders.{lexLess}
 use Rattle.laws.specs.Refusals.{Test, test, refuse}
@@ -16,8 +16,6 @@ use Rattle.slice.specs.declared.check.Checked.the-variants.{Sound, Refused}
 use Rattle.table.specs.Header.{lettered, sideOf, versionOf, countOf, strideOf, roomOf, recordsOf, header}
 use Rattle.table.specs.declared.check.Sides.{Sides}
 use Rattle.table.specs.declared.check.Sides.the-variants.{Permanent, Temporary, Both}
-use Rattle.table.specs.declared.check.Found.{Found}
-use Rattle.table.specs.declared.check.Found.the-variants.{At, Nowhere}
 
 -- the sides that a call takes
 abbrev pub takes : Sides → ℕ → Bool
@@ -32,10 +30,6 @@ isRefused (Refused f) = true
 
 unfoldable pub fails : ℕ → ℕ → List ℕ → Bool
 fails stride side r = isRefused (checkRecord stride side r)
-
--- the place of the first record that fails
-unfoldable pub failing : ℕ → ℕ → List (List ℕ) → Found
-failing stride side rs = cond (any (fails stride side) rs) (At (first (fails stride side) rs)) Nowhere
 
 -- strictly rising order of kind, then sequence number
 unfoldable pub inOrder : List (List ℕ) → Bool
@@ -58,5 +52,5 @@ checkTable sides t = refuse refused (tableTests (strideOf t) sides t) Sound
 
 -- `unfolding ruling` opens every definition that the check computes by
 unfoldable pub ruling : Unit {0}
-unfolding fails failing inOrder tableTests checkTable header keyLess sameKey lexLess checking
+unfolding fails inOrder tableTests checkTable header keyLess sameKey lexLess checking
 ruling = tt

@@ -1,9 +1,8 @@
 // The check of a table: rules 1 to 7, in their order.
 ghost use mathlib.Core.Path.{_≡_};
-ghost use Rattle.slice.specs.Record.{recordSize};
 ghost use Rattle.slice.specs.Check.{checkedReply};
 ghost use Rattle.table.specs.Header.{countOf, recordsOf};
-ghost use Rattle.table.specs.Rules.{takes, failing, inOrder, checkTable};
+ghost use Rattle.table.specs.Rules.{takes, inOrder, checkTable};
 ghost use Rattle.table.specs.Steps.{Roomy};
 use crate::header::count_of;
 use crate::header::is_lettered;
@@ -15,7 +14,8 @@ use crate::header::stride_of;
 use octets::be16;
 use octets::blank8;
 use slice::Checked;
-use slice::check_record;
+use slice::Review;
+use slice::check_records;
 use slice::key_of;
 use slice::refusals;
 
@@ -24,12 +24,6 @@ pub enum Sides {
     Permanent,
     Temporary,
     Both,
-}
-
-// The place of a record that a search has found.
-pub enum Found {
-    At(usize),
-    Nowhere,
 }
 
 // Whether a call that takes some sides takes this one.
@@ -41,21 +35,6 @@ pub fn takes_side(sides: Sides, side: u8) -> bool
         Sides::Temporary => side == slice::TEMPORARY,
         Sides::Both => (side == slice::PERMANENT) | (side == slice::TEMPORARY),
     }
-}
-
-// The first record of a table that fails 11 to 16.
-fn first_failing(table: &[u8], stride: usize, size: usize, count: usize, side: u8) -> Found
-    requires { ⌜ (size ≡ recordSize stride) × (count ≡ countOf (now table)) × Roomy size (now table) ⌝ }
-    ensures { λ r. ⌜ r ≡ failing stride side (recordsOf size (now (table .entry))) ⌝ }
-{
-    let mut i = 0;
-    while i < count {
-        if let Checked::Refused(_) = check_record(record_at(table, size, i), stride, side) {
-            return Found::At(i);
-        }
-        i += 1;
-    }
-    Found::Nowhere
 }
 
 // Whether the records of a table stand in strictly rising order.
@@ -102,7 +81,7 @@ pub fn check_table(table: &[u8], sides: Sides) -> Checked
     if room_of(table, size) < count {
         return Checked::Refused(refusals::COUNT_OVER_ROOM);
     }
-    let Found::Nowhere = first_failing(table, stride, size, count, side) else {
+    let Review::AllSound = check_records(&table[32..], size, count, stride, side) else {
         return Checked::Refused(refusals::RECORD_IN_TABLE);
     };
     if !is_in_order(table, size, count) {

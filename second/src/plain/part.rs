@@ -33,71 +33,39 @@ impl Check for Matched {
     }
 }
 
-/// The check that compares three numbers of eight bytes with a row of a table, without a jump by
-/// the form. It may skip a property that is all zero.
+/// The check by three numbers of eight bytes, lowest byte first, and a table of the forms, without a
+/// jump by the form. It may skip a property that is all zero.
 pub struct Words<const SKIPS_ZEROS: bool>;
 
-/// What a form may use, as numbers to compare with.
-struct Row {
-    /// The least detail, and how far the greatest is from it.
-    least: u64,
-    span: u64,
-    /// The bits of the first eight bytes of content that are zero.
-    unused: u64,
-    /// The greatest number in each eight bytes of content, with its first bit moved to the end.
-    most: [u64; 2],
-}
-
-/// The forms: the least and the greatest detail, how many bytes of content are used, and the limit
-/// of each eight of them.
-const FORMS: [Row; 6] = [
-    Row::new(0, 0, 0, [0, 0]),
-    Row::new(1, 5, 0, [0, 0]),
-    Row::new(0, 0, 2, [ANY, 0]),
-    Row::new(0, 0, 4, [ANY, 0]),
-    Row::new(1, 4, 8, [size(f64::MAX), 0]),
-    Row::new(0, 0, 16, [size(90.0), size(180.0)]),
+/// The forms: the least and the greatest detail, and the greatest number in each eight bytes of
+/// content.
+const FORMS: [(u64, u64, [u64; 2]); 6] = [
+    (0, 0, [0, 0]),
+    (1, 5, [0, 0]),
+    (0, 0, [0xffff, 0]),
+    (0, 0, [0xffff_ffff, 0]),
+    (1, 4, [u64::MAX, 0]),
+    (0, 0, [u64::MAX, u64::MAX]),
 ];
-
-/// The limit of bytes that are no double.
-const ANY: u64 = u64::MAX;
-
-/// Returns the limit of a double that is no greater than this, on both sides of zero. The bits after
-/// the sign rise with the size of a double, and infinities and NaNs come after every number.
-const fn size(greatest: f64) -> u64 {
-    greatest.to_bits() << 1 | 1
-}
-
-impl Row {
-    /// Makes a row.
-    const fn new(least: u64, greatest: u64, used: u32, most: [u64; 2]) -> Row {
-        let unused = if used < 8 { u64::MAX >> (8 * used) } else { 0 };
-        Row {
-            least,
-            span: greatest - least,
-            unused,
-            most,
-        }
-    }
-}
 
 impl<const SKIPS_ZEROS: bool> Check for Words<SKIPS_ZEROS> {
     /// Returns whether a property keeps the layout.
     fn is_sound(part: &Part) -> bool {
         let (words, _) = part.as_chunks();
-        // The form is the lowest byte of the head. Above it is the detail, with bytes 2-7.
-        let head = u64::from_le_bytes(words[0]);
-        let [first, second] = [1, 2].map(|index| u64::from_be_bytes(words[index]));
+        let [head, first, second] = [0, 1, 2].map(|index| u64::from_le_bytes(words[index]));
         if SKIPS_ZEROS && head | first | second == 0 {
             return true;
         }
-        let Some(row) = FORMS.get((head & 255) as usize) else {
+        let form = (head & 255) as usize;
+        let Some((least, greatest, most)) = FORMS.get(form) else {
             return false;
         };
-        ((head >> 8).wrapping_sub(row.least) <= row.span)
-            & (first & row.unused == 0)
-            & (first.rotate_left(1) <= row.most[0])
-            & (second.rotate_left(1) <= row.most[1])
+        // The detail, with bytes 2-7 above it.
+        let detail = head >> 8;
+        let fits =
+            (*least <= detail) & (detail <= *greatest) & (first <= most[0]) & (second <= most[1]);
+        let [one, other] = [first, second].map(|word| f64::from_bits(word.swap_bytes()).abs());
+        fits & ((form != 4) | one.is_finite()) & ((form != 5) | (one <= 90.0) & (other <= 180.0))
     }
 }
 

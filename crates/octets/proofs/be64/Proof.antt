@@ -1,25 +1,16 @@
--- `octets::be64` meets its contract: the tests say whether all the bytes are there, and the sum is their digits. Assumes nothing.
-use native.Mathlib.Nat.{add-zero}
-use native.Mathlib.Omega.{arith}
+-- `octets::be64` meets its contract: the number of the bytes, the lowest first, turned around. Assumes nothing.
 use borrow.Author.Needs.{needs}
-use Rattle.octets.proofs.Readers.{be-short, be-read}
+use Rattle.octets.proofs.Runs.{turn-told}
 use Rattle.octets.proofs.be64.Statement.{statement}
 use Rattle.octets.proofs.be64.Tie as tie
+
+returns : tie.Need-returns
+returns c = rw (c .le64 .ensures) (turn-told _ _ (λ i. c .before .shared-slice-known .given i .fits))
 
 pub be64-spec : {M : Type 1} → statement M
 be64-spec =
     tie.close
     (tie.spec
-    (λ c. be-short _ _ _ (omega arith))
-    (λ c. search needs)
-    (λ c. be-short _ _ _ (omega arith))
-    (λ c. search needs)
-    (λ c. search needs)
-    (λ c. search needs)
-    (λ c. search needs)
-    (λ c. search needs)
-    (λ c. search needs)
-    (λ c. search needs)
     (λ c κs. search needs)
     (λ c. search needs)
     (λ c. search needs)
@@ -29,9 +20,10 @@ be64-spec =
     (λ c. search needs)
     (λ c. search needs)
     (λ c. search needs)
-    (λ c κs. search needs)
     (λ c. search needs)
     (λ c. search needs)
     (λ c. search needs)
     (λ c. search needs)
-    (λ c. be-read _ _ _ _ (omega arith) (rw add-zero (omega arith))))
+    (λ c. search needs)
+    (λ c. search needs)
+    returns)

@@ -7,12 +7,14 @@ use native.Mathlib.Omega.{arith}
 use borrow.Author.Tests.{not-true, not-false, lt-ltb, le-ltb, ne-eqb, eq-eqb}
 use borrow.Author.Needs.{needs}
 use Rattle.slice.specs.Record.{recordSize}
-use Rattle.slice.specs.Check.{checkedReply}
+use Rattle.laws.specs.Lists.{pieces}
+use Rattle.laws.proofs.Lists.{rest-whole}
+use Rattle.slice.specs.Check.{checkedReply, reviewOf}
 use Rattle.slice.specs.declared.check.Checked.{Checked}
 use Rattle.table.specs.Header.{lettered, sideOf, strideOf, countOf, roomOf, recordsOf}
-use Rattle.table.specs.Rules.{takes, failing, inOrder, checkTable}
+use Rattle.table.specs.Rules.{takes, inOrder, checkTable}
 use Rattle.table.proofs.Stages.{table-is, from2, from3, from4, from5, from6, from7}
-use Rattle.table.proofs.Walks.{failing-at, failing-nowhere}
+use Rattle.table.proofs.Walks.{review-passes, review-fails}
 use Rattle.table.proofs.check.check_table.Statement.{statement}
 use Rattle.table.proofs.check.check_table.Tie as tie
 
@@ -80,23 +82,26 @@ over c = omega (arith, room (c .before), count (c .before), c .if5 .taken)
 past5 : (c : tie.Else5) → Answer (s5 (c .before)) ≡ from6 (s5 (c .before) .args .sides) (T (s5 (c .before)))
 past5 c = past4 (c .before .before .before .before .before) ∙ rw (le-ltb _ _ (roomy c))
 
--- the search for a failing record, in the definition's own numbers
-search-is : (c : tie.After-first-failing) → let k = c .before .before in
-    c .first-failing .result ≡ failing (strideOf (T (s5 k))) (sideOf (T (s5 k))) (recordsOf (Size k) (T (s5 k)))
-search-is c =
-    let k = c .before .before in
+-- the review of the records, in the definition's own numbers
+review-is : (c : tie.After-check-records) → let k = c .before .before .before in
+    c .check-records .result ≡ reviewOf (strideOf (T (s5 k))) (sideOf (T (s5 k))) (recordsOf (Size k) (T (s5 k)))
+unfolding recordsOf
+review-is c =
+    let k = c .before .before .before in
     let side = k .before .before .before .before .before .before .before .before .before .before .before .side-of .ensures in
-    c .first-failing .ensures
-    ∙ (λ i. failing (k .before .before .before .stride-of .ensures i) (side i) (recordsOf (sized k i) (T (s5 k))))
+    c .check-records .ensures
+    ∙ (λ i. reviewOf (k .before .before .before .stride-of .ensures i) (side i)
+    (pieces (sized k i) (count k i) (rest-whole 32 (T (s5 k)) i)))
 
 past6 : (c : tie.After-enum-told)
-    → let k = c .before .before .before .before in Answer (s5 k) ≡ from7 (s5 k .args .sides) (T (s5 k))
-past6 c = let f = c .before .before in past5 (f .before) ∙ rw (failing-nowhere _ _ _ (sym (search-is f) ∙ c .enum-told .given .1))
+    → let k = c .before .before .before .before .before in Answer (s5 k) ≡ from7 (s5 k .args .sides) (T (s5 k))
+past6 c =
+    let f = c .before .before in past5 (f .before .before) ∙ rw (review-passes _ _ _ (sym (review-is f) ∙ c .enum-told .given .1))
 
 order-is : (c : tie.After-is-in-order)
-    → let k = c .before .before .before .before .before in c .is-in-order .result ≡ inOrder (recordsOf (Size k) (T (s5 k)))
+    → let k = c .before .before .before .before .before .before in c .is-in-order .result ≡ inOrder (recordsOf (Size k) (T (s5 k)))
 order-is c =
-    let k = c .before .before .before .before .before in
+    let k = c .before .before .before .before .before .before in
     c .is-in-order .ensures ∙ ap (λ (n : ℕ). inOrder (recordsOf n (T (s5 k)))) (sized k)
 
 returns : tie.Need-returns
@@ -111,7 +116,8 @@ returns-3 c =
     ap checkedReply (sym (past2 (c .before .before) ∙ rw (ne-eqb _ _ (λ e. c .if3 .taken (c .before .be16 .ensures ∙ e)))))
 
 returns-4 : tie.Need-returns-4
-returns-4 c = ap checkedReply (sym (past3 (c .before .before) ∙ rw (sym (c .before .blank8 .ensures) ∙ not-true _ (c .if4 .taken))))
+returns-4 c =
+    ap checkedReply (sym (past3 (c .before .before) ∙ rw (sym (c .before .blank8 .ensures) ∙ not-true _ (c .if4 .taken))))
 
 returns-5 : tie.Need-returns-5
 returns-5 c =
@@ -122,7 +128,7 @@ returns-6 : tie.Need-returns-6
 returns-6 c =
     let f = c .before .before in
     ap checkedReply
-    (sym (past5 (f .before) ∙ rw (failing-at _ _ _ (c .enum-told2 .given .0 .0) (sym (search-is f) ∙ c .enum-told2 .given .1))))
+    (sym (past5 (f .before .before) ∙ rw (review-fails _ _ _ _ _ (sym (review-is f) ∙ c .enum-told2 .given .1))))
 
 returns-7 : tie.Need-returns-7
 returns-7 c =
@@ -151,6 +157,9 @@ check-table-spec =
     (λ c. search needs)
     (λ c κs. search needs)
     returns-5
+    (λ c. search needs)
+    (λ c. search needs)
+    (λ c. search needs)
     (λ c κs. search needs)
     (λ c. search needs)
     (λ c. search needs)
