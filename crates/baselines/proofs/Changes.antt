@@ -1,6 +1,6 @@
 -- No change instant of a table lies above none: each is a time of four bytes. Assumes nothing.
 use Prim.Native.Nat.{ℕ, zero, suc, _≤_}
-use mathlib.Core.Path.{_≡_, refl, sym, ap, subst}
+use mathlib.Core.Path.{_≡_, sym, subst}
 use mathlib.Core.List.{List, [], _∷_}
 use mathlib.Core.Logic.{inl, inr, ⊎-elim}
 use native.Mathlib.Omega.{arith}
@@ -8,17 +8,17 @@ use lib.ListN.{take, drop}
 use Rattle.laws.specs.Lists.{pieces}
 use Rattle.laws.specs.Keyed.{In}
 use Rattle.laws.proofs.Tests.{pick-ind}
-use Rattle.laws.proofs.Lists.{map-in}
-use Rattle.octets.specs.Bytes.{beOf, Bytes}
+use Rattle.octets.specs.Bytes.{Bytes}
 use Rattle.numbers.specs.Numbers.{noInstant}
 use Rattle.numbers.specs.declared.Instant.{Instant}
-use Rattle.slice.specs.Record.{baseline, permdelta, recordSize, periodOf, lifeOf, viewOf}
+use Rattle.slice.specs.Record.{baseline, permdelta, recordSize, Slice, viewOf}
 use Rattle.slice.proofs.Times.{instant-most}
 use Rattle.table.specs.Header.{countOf, strideOf, recordsOf}
 use Rattle.history.specs.Counted.{counts}
 use Rattle.history.specs.Changes.{changesBy}
 use Rattle.history.proofs.Changes.{Bounded}
 use Rattle.state.specs.Asking.{slicesOf}
+use Rattle.state.proofs.Slices.{slice-view}
 
 -- ---- the times of a table of bytes
 bytes-take : (n : ℕ) (l : List ℕ) → Bytes l → Bytes (take n l)
@@ -41,24 +41,21 @@ unfolding recordsOf
 bytes-records p h r m = bytes-pieces (recordSize (strideOf p)) (countOf p) (drop 32 p) r (bytes-drop 32 p h) m
 
 -- each is of four bytes
-times-bounded : (stride : ℕ) (r : List ℕ) → Bytes r → (x : Instant) → In x (changesBy (viewOf stride r)) → x .0 ≤ noInstant
-unfolding changesBy viewOf
-times-bounded stride r h x =
-    pick-ind (λ l. In x l → x .0 ≤ noInstant) (counts baseline (viewOf stride r)) (λ _. among)
-    (λ _. pick-ind (λ l. In x l → x .0 ≤ noInstant) (counts permdelta (viewOf stride r)) (λ _. first) (λ _ m. absurd m))
-  where
-    low : (at : ℕ) (t : Instant) → t .0 ≡ beOf 4 r at → x ≡ t → x .0 ≤ noInstant
-    low at t e q = omega (arith, ap (λ i. i .0) q, e, instant-most r at h)
-
-    first : In x (periodOf r .begin ∷ []) → x .0 ≤ noInstant
-    first = ⊎-elim (low 8 (periodOf r .begin) refl) (λ m. absurd m)
-
-    among : In x (periodOf r .begin ∷ periodOf r .end ∷ lifeOf r .end ∷ []) → x .0 ≤ noInstant
-    among = ⊎-elim (low 8 (periodOf r .begin) refl)
-        (⊎-elim (low 12 (periodOf r .end) refl) (⊎-elim (low 20 (lifeOf r .end) refl) (λ m. absurd m)))
+pub slice-bounded : (p : List ℕ) → Bytes p → (d : Slice) → In d (slicesOf p)
+    → (d .period .begin .0 ≤ noInstant) × (d .period .end .0 ≤ noInstant) × (d .life .begin .0 ≤ noInstant)
+    × (d .life .end .0 ≤ noInstant)
+unfolding viewOf
+slice-bounded p bytes d m =
+    let (r, n, e) = slice-view p d m in
+    let b = bytes-records p bytes r n in
+    rw e (instant-most r 8 b, instant-most r 12 b, instant-most r 16 b, instant-most r 20 b)
 
 pub slices-bounded : (p : List ℕ) → Bytes p → Bounded (slicesOf p)
-unfolding slicesOf
-slices-bounded p h s m x k =
-    let (r, n, e) = map-in (viewOf (strideOf p)) (recordsOf (recordSize (strideOf p)) p) s m in
-    times-bounded (strideOf p) r (bytes-records p h r n) x (subst (λ s. In x (changesBy s)) e k)
+unfolding changesBy
+slices-bounded p bytes s m x =
+    let (b, e, _, g) = slice-bounded p bytes s m in
+    let is : (t : Instant) → t .0 ≤ noInstant → x ≡ t → x .0 ≤ noInstant = λ t l q. rw q l in
+    let begins = is (s .period .begin) b in
+    pick-ind (λ l. In x l → x .0 ≤ noInstant) (counts baseline s)
+    (λ _. ⊎-elim begins (⊎-elim (is (s .period .end) e) (⊎-elim (is (s .life .end) g) (λ m. absurd m))))
+    (λ _. pick-ind (λ l. In x l → x .0 ≤ noInstant) (counts permdelta s) (λ _. ⊎-elim begins (λ m. absurd m)) (λ _ m. absurd m))

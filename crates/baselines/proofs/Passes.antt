@@ -2,29 +2,28 @@
 use Prim.Native.Nat.{ℕ, _+_, _*_, _/_, _%_, _<_}
 use mathlib.Core.Path.{_≡_, refl, sym, ap, _∙_, subst}
 use mathlib.Core.List.{List, [], _∷_, _++_, map}
-use mathlib.Core.Bool.{true, false, not}
+use mathlib.Core.Bool.{false}
 use mathlib.Core.Logic.{inl, inr, ⊎-elim}
 use mathlib.Core.Option.{Option, none, some, Option·none-ne-some, Option·some-injective}
 use native.Mathlib.Omega.{arith}
 use lib.ListN.{length, take, drop}
 use lib.Dec.{eqb}
-use borrow.Author.Tests.{not-true, le-leb, eq-eqb}
+use borrow.Author.Tests.{le-leb, eq-eqb}
 use Rattle.laws.specs.Lists.{any, joined}
 use Rattle.laws.specs.Keyed.{In}
 use Rattle.laws.specs.Refusals.{Test, Passed, FirstFails}
-use Rattle.laws.proofs.Tests.{contrary, and-both, or-neither}
+use Rattle.laws.proofs.Tests.{contrary, or-neither}
 use Rattle.laws.proofs.Lists.{map-in, any-none, none-any}
-use Rattle.laws.proofs.Pieces.{joined-length}
+use Rattle.laws.proofs.Pieces.{Sized, joined-length}
 use Rattle.laws.proofs.Refusals.{given-number}
 use Rattle.octets.specs.Bytes.{filled, Bytes}
 use Rattle.octets.specs.Writing.{bytesOf}
 use Rattle.numbers.specs.declared.Instant.{Instant}
 use Rattle.property.specs.Eight.{breaks, mentioned, eight}
 use Rattle.slice.specs.Record.{baseline, permdelta, permanent, ofSide, recordSize, partsOf, Property, unmentioned, says}
-use Rattle.slice.specs.Record.{propertyOf, Slice}
-use Rattle.slice.specs.Record.{viewOf}
+use Rattle.slice.specs.Record.{propertyOf, Slice, viewOf}
 use Rattle.slice.specs.Check.{checkRecord}
-use Rattle.slice.specs.Rules.{timesOf, timesRight, contentRight}
+use Rattle.slice.specs.Rules.{timesRight, contentRight}
 use Rattle.slice.specs.declared.check.Checked.the-variants.{Sound}
 use Rattle.slice.proofs.Sound.{record-sound}
 use Rattle.slice.proofs.Times.{baseline-times, permdelta-times}
@@ -32,12 +31,10 @@ use Rattle.table.specs.Header.{strideOf}
 use Rattle.table.specs.Rules.{fails, tableTests, checkTable}
 use Rattle.table.specs.declared.check.Sides.the-variants.{Permanent}
 use Rattle.table.proofs.Stays.{Good, all-good, good-all, good-sized, sound-in}
-use Rattle.history.specs.Counted.{counts}
 use Rattle.history.specs.State.{State}
 use Rattle.history.specs.Permanent.{known, permanentAt}
 use Rattle.history.specs.Changes.{changeInstants}
 use Rattle.history.specs.Derived.{Stretch, stretches, filledIn, baselineOf, derivedBaselines}
-use Rattle.history.proofs.Orders.{counts-kind}
 use Rattle.history.proofs.Line.{known-line, line-within}
 use Rattle.history.proofs.Stretches.{stretched, numbered-in}
 use Rattle.history.proofs.DerivedRules.{line-begun, Born, drawn-times, drawn-content}
@@ -50,11 +47,7 @@ use Rattle.baselines.specs.Deriving.{derivedRecords, derivingTests, refu
 use Rattle.baselines.specs.declared.derivation.Derivation.{Derivation}
 use Rattle.baselines.specs.declared.derivation.Derivation.the-variants.{Derived, Refused}
 use Rattle.baselines.proofs.Laid.{laid-length, parts-of, view-laid}
-use Rattle.baselines.proofs.Right.{counted-right, timely, baseline-holdable}
-
-uncancelled : (kind : ℕ) (d : Slice) → counts kind d ≡ true → d .cancelled ≡ false
-unfolding counts
-uncancelled kind d c = not-true (d .cancelled) (and-both (eqb (d .kind) kind) (not (d .cancelled)) c .1)
+use Rattle.baselines.proofs.Right.{uncancelled, kind-times, timely, baseline-holdable}
 
 -- four bytes of a number are those of its last 32 bits
 bytes-round : (v : ℕ) → bytesOf 4 v ≡ bytesOf 4 (v % 4294967296)
@@ -73,16 +66,11 @@ module _ (p : List ℕ) (bytes : Bytes p) (sound : checkTable Permanent p ≡ So
   unknown = nilUnknown (strideOf p)
 
   -- ---- what the check of the stored records tells
-  kind-times : (kind : ℕ) (d : Slice) → In d slices → counts kind d ≡ true → timesOf kind (d .period) (d .life) ≡ true
-  unfolding timesRight
-  kind-times kind d m c =
-      ap (λ n. timesOf n (d .period) (d .life)) (sym (counts-kind kind d c))
-      ∙ counted-right p bytes sound d m (uncancelled kind d c)
-
   born : Born slices
-  born d m (inl c) = baseline-times (d .period) (d .life) (kind-times baseline d m c) .lifeBegin
+  born d m (inl c) = baseline-times (d .period) (d .life) (kind-times p bytes sound baseline d m c) .lifeBegin
   born d m (inr c) =
-      ⊎-elim inl (λ e. inr (omega (arith, e))) (permdelta-times (d .period) (d .life) (kind-times permdelta d m c) .lifeBegin)
+      ⊎-elim inl (λ e. inr (omega (arith, e)))
+      (permdelta-times (d .period) (d .life) (kind-times p bytes sound permdelta d m c) .lifeBegin)
 
   -- a property of one that counts keeps the layout
   slice-whole : (d : Slice) → In d slices → d .cancelled ≡ false → (b : List ℕ) → In (says b) (d .properties) → breaks b ≡ false
@@ -160,10 +148,12 @@ module _ (p : List ℕ) (bytes : Bytes p) (sound : checkTable Permanent p ≡ So
   derived-pass = good-all (strideOf p) permanent (derivedRecords p) derived-passes
 
   -- and all are of one length
+  pub derived-sized : Sized (recordSize (strideOf p)) (derivedRecords p)
+  derived-sized =
+      good-sized (strideOf p) permanent (derivedRecords p) (all-good (strideOf p) permanent (derivedRecords p) derived-pass)
+
   pub derived-long : length (joined (derivedRecords p)) ≡ length (derivedRecords p) * recordSize (strideOf p)
-  derived-long =
-      joined-length (recordSize (strideOf p)) (derivedRecords p)
-      (good-sized (strideOf p) permanent (derivedRecords p) (all-good (strideOf p) permanent (derivedRecords p) derived-pass))
+  derived-long = joined-length (recordSize (strideOf p)) (derivedRecords p) derived-sized
 
 -- ---- the answer
 -- tests of other numbers pass where one behind them is the first to fail

@@ -9,9 +9,8 @@ use lib.Seq.{take-at, drop-at, length-take-le}
 use Rattle.laws.proofs.Lists.{drop-past}
 use Rattle.octets.specs.Writing.{pasted}
 use Rattle.octets.proofs.Writing.{pasted-then, pasted-whole}
-use Rattle.slice.specs.Record.{permanent}
+use Rattle.slice.specs.Record.{permanent, Property, unmentioned, says}
 use Rattle.table.specs.Header.{featureOf, headerOf}
-use Rattle.slice.specs.Record.{Property, unmentioned, says}
 use Rattle.history.specs.Derived.{filledIn}
 use Rattle.state.specs.Written.{nilUnknown, propertyBytes}
 

@@ -25,7 +25,7 @@ use Rattle.slice.specs.Record.{viewOf}
 use Rattle.slice.specs.declared.record.Life.{Life}
 use Rattle.slice.specs.Rules.{timesOf, timesRight}
 use Rattle.slice.specs.declared.check.Checked.the-variants.{Sound}
-use Rattle.slice.proofs.Times.{instant-most, permdelta-times}
+use Rattle.slice.proofs.Times.{permdelta-times}
 use Rattle.table.specs.Header.{strideOf}
 use Rattle.table.specs.Rules.{checkTable}
 use Rattle.table.specs.declared.check.Sides.the-variants.{Permanent}
@@ -48,12 +48,16 @@ use Rattle.state.specs.Asking.{slicesOf}
 use Rattle.state.proofs.Slices.{rising-views, slice-view, slice-eight, slice-sized}
 use Rattle.baselines.specs.Laid.{recordFor}
 use Rattle.baselines.specs.Deriving.{derivedRecords}
-use Rattle.baselines.proofs.Changes.{bytes-records, slices-bounded}
+use Rattle.baselines.proofs.Changes.{slice-bounded, slices-bounded}
 use Rattle.baselines.proofs.Laid.{Said, Holdable, view-laid}
 
 pub low : (x : ℕ) → x ≤ noInstant → x < 4294967296
 unfolding noInstant
 low x h = omega arith
+
+pub uncancelled : (kind : ℕ) (d : Slice) → counts kind d ≡ true → d .cancelled ≡ false
+unfolding counts
+uncancelled kind d c = not-true (d .cancelled) (and-both (eqb (d .kind) kind) (not (d .cancelled)) c .1)
 
 said-mention : (x b : List ℕ) (c : Bool) → mentioned x ≡ c → says b ≡ cond c (says x) unmentioned → mentioned b ≡ true
 said-mention x b true m e = let q : b ≡ x = cc in rw q m
@@ -64,13 +68,6 @@ module _ (p : List ℕ) (bytes : Bytes p) (sound : checkTable Permanent p ≡ So
   slices = slicesOf p
 
   -- ---- its slices
-  life-bounded : (d : Slice) → In d slices → (d .life .begin .0 ≤ noInstant) × (d .life .end .0 ≤ noInstant)
-  unfolding viewOf
-  life-bounded d m =
-      let (r, n, e) = slice-view p d m in
-      let b = bytes-records p bytes r n in
-      (rw e (instant-most r 16 b), rw e (instant-most r 20 b))
-
   slice-mentioned : (d : Slice) → In d slices → (b : List ℕ) → In (says b) (d .properties) → mentioned b ≡ true
   unfolding viewOf
   slice-mentioned d m b k =
@@ -85,15 +82,16 @@ module _ (p : List ℕ) (bytes : Bytes p) (sound : checkTable Permanent p ≡ So
       ⊎-elim (λ x. contrary (ap (λ s. s .cancelled) e ∙ x .cancelled) c) (λ k. ap timesRight e ∙ k .times)
       (sound-in Permanent p sound r n .rest)
 
+  -- one that counts has the times of its kind
+  pub kind-times : (kind : ℕ) (d : Slice) → In d slices → counts kind d ≡ true → timesOf kind (d .period) (d .life) ≡ true
+  unfolding timesRight
+  kind-times kind d m c =
+      ap (λ n. timesOf n (d .period) (d .life)) (sym (counts-kind kind d c)) ∙ counted-right d m (uncancelled kind d c)
+
   pub timely : Timely slices
-  unfolding counts timesRight
   timely d m c =
-      let right = counted-right d m (not-true (d .cancelled) (and-both (eqb (d .kind) permdelta) (not (d .cancelled)) c .1)) in
-      let times =
-      permdelta-times (d .period) (d .life) (ap (λ n. timesOf n (d .period) (d .life)) (sym (counts-kind permdelta d c)) ∙ right)
-      in
       ⊎-elim (λ e. inl (instant-of (d .life .end) numbers.none e)) (λ e. inr (instant-of (d .life .end) (d .period .begin) e))
-      (times .lifeEnd)
+      (permdelta-times (d .period) (d .life) (kind-times permdelta d m c) .lifeEnd)
 
   -- ---- its states
   module _ (t : Instant) (s : State) (e : permanentAt t slices ≡ known s) where
@@ -122,7 +120,7 @@ module _ (p : List ℕ) (bytes : Bytes p) (sound : checkTable Permanent p ≡ So
     pub state-life : (s .life .begin .0 ≤ noInstant) × (s .life .end .0 ≤ noInstant)
     state-life =
         rw (known-line t slices s e .3, line-begin first others, line-end first others)
-        (one (λ l. l .begin) 8 (λ d m. life-bounded d m .0) _ refl, one (λ l. l .end) 9 (λ d m. life-bounded d m .1) _ refl)
+        (one (λ l. l .begin) 8 (λ d m. slice-bounded p bytes d m .2) _ refl, one (λ l. l .end) 9 (λ d m. slice-bounded p bytes d m .3) _ refl)
       where
         one : (time : Life → Instant) (q : ℕ) → ((d : Slice) → In d slices → time (d .life) .0 ≤ noInstant)
             → (v : Option Slice) → lastOf (tells q) none (first ∷ others) ≡ v → timeIn time v .0 ≤ noInstant

@@ -38,12 +38,12 @@ returns c =
     let r = a .«record» .now in
     let k = eq-eqb (viewOf (a .stride) r .kind) baseline (sym (y .byte .ensures) ∙ p .before .before .if1 .taken) in (
       c .begin-base .ensures ∙ sym (rw k),
-      λ v e same counted own h.
+      λ v e comes h.
           subst (λ (l : List ℕ). Lines (a .stride) (seenWith v (viewOf (a .stride) r)) (a .t) l (a .line .now))
           (sym (p .put .ensures))
           (lines-begun (a .stride) v (viewOf (a .stride) r) (a .t) (a .base .now) (a .line .now) (pasted (a .base .now) 0 r) k
-          counted
-          (λ b. rw (record-first (a .stride) (a .base .now) r (s .pre .1 .1 .0) (omega (arith, s .pre .0))) (own b)) h),
+          (comes .counted)
+          (λ b. rw (record-first (a .stride) (a .base .now) r (s .pre .1 .0) (omega (arith, s .pre .0 .0))) (comes .own b)) h),
     )
 
 -- ---- a PERMDELTA
@@ -123,9 +123,9 @@ unfolding viewOf passedWith
 returns-2 c =
     let a = s (j c) .args in (
       c .change .ensures ∙ sym (rw (kind-not (j c))),
-      λ v e same counted own h.
+      λ v e comes h.
           lines-changed (a .stride) v (x (j c)) (a .t) (j c .if2 .base) (c .before .if3 .line) (kind-not (j c)) (base-is (j c) v e
-          same h)
+          (comes .begins) h)
           (line-is c v e (h .opened)),
     )
 

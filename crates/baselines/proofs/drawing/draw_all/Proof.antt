@@ -62,11 +62,11 @@ draw-events-requires c κs =
       (
         start .pre .1,
         (
-          line-long size (n .result) e (n .ensures),
           (
+            line-long size (n .result) e (n .ensures),
             whole-long size (n .result) e (n .ensures) r (u .put-unknown .kept .0),
-            whole-says size (n .result) e (n .ensures) r (u .put-unknown .kept .0) (u .put-unknown .ensures),
           ),
+          whole-says size (n .result) e (n .ensures) r (u .put-unknown .kept .0) (u .put-unknown .ensures),
         ),
       ),
     )
