@@ -8,7 +8,7 @@ use native.Mathlib.Omega.{arith}
 use lib.ListN.{length, replicate}
 use lib.Dec.{eqb, ltb}
 use borrow.Author.Tests.{not-true, eqb-true}
-use Rattle.laws.proofs.Tests.{tests, contrary, and-both, or-either}
+use Rattle.laws.proofs.Tests.{tests, pick-ind, and-both, or-either}
 use Rattle.numbers.specs.Numbers.{none, isNone, given, before, sameInstant}
 use Rattle.numbers.specs.declared.Instant.{Instant}
 use Rattle.slice.specs.Record.{baseline, permdelta, Property, unmentioned, says, Slice}
@@ -43,31 +43,21 @@ applied-unknown x e = λ i. record {
   properties = over-unknown 8 (x .properties) e i;
 }
 
--- a BASELINE that holds, and to which a PERMDELTA does not go, begins there
-begins-there : (p q : Bool) → (p && not q) ≡ false → p ≡ true → q ≡ true
-begins-there true true e f = refl
-begins-there true false e f = contrary refl e
-begins-there false q e f = contrary f refl
+flip : (b : Bool) (s u : State) → cond (not b) s u ≡ cond b u s
+flip true s u = refl
+flip false s u = refl
 
--- ---- the line of the first opening, by how many have opened and whether the slice opens
-module _ (x : Slice) where
-  abbrev next : ℕ → Bool → State → State
-  next n b l = cond (eqb (cond b (suc n) n) 0) unknownState (cond (eqb n 0) (started x) (applied l x))
-
-  on : length (x .properties) ≡ 8 → (n : ℕ) (b : Bool) (l : State) → (ltb 0 n || b) ≡ true
-      → applied (cond (eqb n 0) unknownState l) x ≡ next n b l
-  on k zero true l e = applied-unknown x k
-  on k zero false l e = contrary e refl
-  on k (suc n) true l e =
-      let y : eqb (suc n) 0 ≡ false = omega tests in
-      let z : eqb (suc (suc n)) 0 ≡ false = omega tests in
-      rw (y, z)
-  on k (suc n) false l e = let y : eqb (suc n) 0 ≡ false = omega tests in rw y
-
-  off : (n : ℕ) (b : Bool) (l : State) → (ltb 0 n || b) ≡ false → cond (eqb n 0) unknownState l ≡ next n b l
-  off zero true l e = contrary refl e
-  off zero false l e = refl
-  off (suc n) b l e = let y : ltb 0 (suc n) ≡ true = omega tests in contrary (ap (λ p. p || b) y) e
+-- the line of the first opening, by how many have opened and whether the slice opens
+opened-on : (x : Slice) → length (x .properties) ≡ 8 → (n : ℕ) (b : Bool) (l : State) → let now = cond (eqb n 0) unknownState l in
+    cond (ltb 0 n || b) (applied now x) now
+    ≡ cond (eqb (cond b (suc n) n) 0) unknownState (cond (eqb n 0) (started x) (applied l x))
+opened-on x k zero true l = applied-unknown x k
+opened-on x k zero false l = refl
+opened-on x k (suc n) b l =
+    let more : ltb 0 (suc n) ≡ true = omega tests in
+    let some : eqb (suc n) 0 ≡ false = omega tests in
+    let still : eqb (cond b (suc (suc n)) (suc n)) 0 ≡ false = pick-ind (λ (m : ℕ). eqb m 0 ≡ false) b (λ _. omega tests) (λ _. some) in
+    rw (more, some, still)
 
 module _ (stride : ℕ) (v : Seen) (x : Slice) where
   -- ---- a BASELINE: its own line, and the other as it was
@@ -83,45 +73,18 @@ module _ (stride : ℕ) (v : Seen) (x : Slice) where
   unfolding begun
   lines-begun t base line r k c h l = rw k record { based = λ _. h (counted-base c k); opened = l .opened }
 
-  -- ---- a PERMDELTA: the line of the BASELINE that holds, unless it begins there too
-  module _ (t : Instant) (same : x .period .begin ≡ t) (base : List ℕ)
-      (h : before t (v .end) ≡ true → Carries stride (v .base) (recordOf stride base)) where
-    pub base-applied : (base′ : List ℕ) → (before t (v .end) && not (sameInstant (v .begin) t)) ≡ true
-        → Turns stride (λ s. applied s x) base base′
-        → before t (changed v x .end) ≡ true → Carries stride (changed v x .base) (recordOf stride base′)
-    unfolding changed
-    base-applied base′ e f b =
-        let (p, q) = and-both (before t (v .end)) (not (sameInstant (v .begin) t)) e in
-        let z : sameInstant (v .begin) (x .period .begin) ≡ false =
-        ap (sameInstant (v .begin)) same ∙ not-true (sameInstant (v .begin) t) q in
-        rw z (f (v .base) (h p))
-
-    pub base-kept : (before t (v .end) && not (sameInstant (v .begin) t)) ≡ false
-        → before t (changed v x .end) ≡ true → Carries stride (changed v x .base) (recordOf stride base)
-    unfolding changed
-    base-kept e b =
-        let z : sameInstant (v .begin) (x .period .begin) ≡ true =
-        ap (sameInstant (v .begin)) same ∙ begins-there (before t (v .end)) (sameInstant (v .begin) t) e b in
-        rw z (h b)
-
-  -- the line of the first opening, which it may be
-  pub line-applied : (line line′ : List ℕ) → length (x .properties) ≡ 8 → (ltb 0 (v .openings) || given (x .life .begin)) ≡ true
-      → Turns stride (λ s. applied s x) line line′
-      → Carries stride (lineNow v) (recordOf stride line) → Carries stride (lineNow (changed v x)) (recordOf stride line′)
+  -- ---- a PERMDELTA: the line of the BASELINE that holds, unless it begins there too, and that of the first opening, which it may
+  -- be
+  pub lines-changed : {t : Instant} {base line base′ line′ : List ℕ} {goes opens : Bool} → eqb (x .kind) baseline ≡ false
+      → x .period .begin ≡ t → length (x .properties) ≡ 8
+      → goes ≡ (before t (v .end) && not (sameInstant (v .begin) t)) → Turns stride (λ s. cond goes (applied s x) s) base base′
+      → opens ≡ (ltb 0 (v .openings) || given (x .life .begin)) → Turns stride (λ s. cond opens (applied s x) s) line line′
+      → Lines stride v t base line → Lines stride (seenWith v x) t base′ line′
   unfolding changed
-  line-applied line line′ n e f h =
-      subst (λ (s : State). Carries stride s (recordOf stride line′)) (on x n (v .openings) (given (x .life .begin)) (v .line) e)
-      (f (lineNow v) h)
-
-  pub line-kept : (line : List ℕ) → (ltb 0 (v .openings) || given (x .life .begin)) ≡ false
-      → Carries stride (lineNow v) (recordOf stride line) → Carries stride (lineNow (changed v x)) (recordOf stride line)
-  unfolding changed
-  line-kept line e h =
-      subst (λ (s : State). Carries stride s (recordOf stride line)) (off x (v .openings) (given (x .life .begin)) (v .line) e) h
-
-  -- both
-  pub lines-changed : (t : Instant) (base line : List ℕ) → eqb (x .kind) baseline ≡ false
-      → (before t (changed v x .end) ≡ true → Carries stride (changed v x .base) (recordOf stride base))
-      → Carries stride (lineNow (changed v x)) (recordOf stride line)
-      → Lines stride (seenWith v x) t base line
-  lines-changed t base line k b l = rw k record { based = b; opened = l }
+  lines-changed {t} {base′ = base′} {line′ = line′} k same n e f q g l = rw k record {
+    based = λ b. subst (λ (s : State). Carries stride s (recordOf stride base′))
+        (rw (e, b, ← same) (flip (sameInstant (v .begin) (x .period .begin)) (applied (v .base) x) (v .base)))
+        (f (v .base) (l .based b));
+    opened = subst (λ (s : State). Carries stride s (recordOf stride line′))
+        (rw q (opened-on x n (v .openings) (given (x .life .begin)) (v .line))) (g (lineNow v) (l .opened));
+  }

@@ -13,7 +13,7 @@ ghost use Rattle.baselines.specs.Carried.{Carries, lineSize, recordOf, L
 ghost use Rattle.baselines.specs.Steps.{Sweepable, FitsIn, drawnRecord, DrawsKnown};
 ghost use Rattle.baselines.specs.Deriving.{derivedRecords};
 use crate::counting::head;
-use crate::line::apply;
+use crate::line::apply_where;
 use crate::line::put_unknown;
 use crate::sweeping::Sweep;
 use crate::sweeping::begin_base;
@@ -111,14 +111,10 @@ fn carry(
         return begin_base(s, record, t);
     }
     let begin = s.begin;
-    if is_based(s, t) & !begin.is(t) {
-        apply(base, record, stride);
-    }
+    apply_where(is_based(s, t) & !begin.is(t), base, record, stride);
     let life = life_of(record);
     let born = life.begin;
-    if (0 < s.openings) | !born.is_none() {
-        apply(line, record, stride);
-    }
+    apply_where((0 < s.openings) | !born.is_none(), line, record, stride);
     change(s, record, t)
 }
 

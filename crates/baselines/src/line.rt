@@ -83,7 +83,7 @@ fn put_mentions(line: &mut [u8], delta: &[u8], stride: usize)
 }
 
 // Makes the line of a state that of the state with a PERMDELTA applied.
-pub(crate) fn apply(line: &mut [u8], delta: &[u8], stride: usize)
+fn apply(line: &mut [u8], delta: &[u8], stride: usize)
     requires { ⌜ (length (now delta) ≡ recordSize stride) × (length (now line) ≡ lineSize stride) ⌝ }
     ensures { λ _.
         ⌜ Turns stride (λ s. applied s (viewOf stride (now (delta .entry)))) (now (line .entry)) (now (line .exit)) ⌝ }
@@ -92,6 +92,18 @@ pub(crate) fn apply(line: &mut [u8], delta: &[u8], stride: usize)
     let life = life_of(delta);
     put_time(line, 16, life.begin);
     put_time(line, 20, life.end);
+}
+
+// The same where the PERMDELTA goes to the line, and else nothing.
+pub(crate) fn apply_where(goes: bool, line: &mut [u8], delta: &[u8], stride: usize)
+    requires { ⌜ (length (now delta) ≡ recordSize stride) × (length (now line) ≡ lineSize stride) ⌝ }
+    ensures { λ _.
+        ⌜ Turns stride (λ s. cond goes (applied s (viewOf stride (now (delta .entry)))) s) (now (line .entry)) (now (line .exit)) ⌝ }
+{
+    if !goes {
+        return;
+    }
+    apply(line, delta, stride);
 }
 
 // Makes a record of zeros that of a state of which nothing is known: no life time, eight properties that
