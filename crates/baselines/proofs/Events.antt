@@ -36,7 +36,7 @@ use Rattle.state.proofs.Slices.{slices-length, slice-at, slice-view}
 use Rattle.baselines.specs.Noting.{nowhere, notes, begins, goneOf, lifeEnds, noted}
 use Rattle.baselines.proofs.Changes.{slice-bounded}
 use Rattle.baselines.proofs.Noted.{sliceAt, count-most}
-use Rattle.baselines.proofs.Right.{low, uncancelled, counted-right, kind-times}
+use Rattle.baselines.proofs.Passes.{low, uncancelled, counted-right, kind-times}
 
 -- ---- the times that some slices give, the first of which stands at place i
 module _ (time : Slice → Instant) (place : ℕ → ℕ) where

@@ -7,13 +7,13 @@ use mathlib.Core.Logic.{inl, inr}
 use native.Mathlib.Omega.{arith}
 use lib.ListN.{length, length-map}
 use lib.Dec.{eqb}
-use Rattle.laws.specs.Lists.{pieces, joined}
+use Rattle.laws.specs.Lists.{any, pieces, joined}
 use Rattle.laws.specs.Keyed.{In}
-use Rattle.laws.proofs.Lists.{map-in}
+use Rattle.laws.proofs.Lists.{map-in, none-any}
 use Rattle.laws.proofs.Pieces.{Sized, joined-length, pieces-joined}
 use Rattle.octets.specs.Bytes.{byteOf, digits, beOf}
 use Rattle.octets.proofs.Readers.{be-whole}
-use Rattle.property.specs.Eight.{propertiesOf, mentioned}
+use Rattle.property.specs.Eight.{propertiesOf, breaks, mentioned}
 use Rattle.slice.specs.Record.{recordSize, partsOf, Property, says, propertyOf, Slice, viewOf}
 use Rattle.baselines.specs.Laid.{partFor, recordFor}
 
@@ -25,9 +25,9 @@ four-back : (v : ℕ) → v < 4294967296
     → (((0 * 256 + v / 256 / 256 / 256 % 256) * 256 + v / 256 / 256 % 256) * 256 + v / 256 % 256) * 256 + v % 256 ≡ v
 four-back v h = omega arith
 
--- a property that says bytes, as many as it has, which are a mention
+-- a property that says bytes, as many as it has, which are a mention and keep the layout
 abbrev pub Said : ℕ → Property → Type 0
-Said stride v = (b : List ℕ) × (v ≡ says b) × (length b ≡ stride) × (mentioned b ≡ true)
+Said stride v = (b : List ℕ) × (v ≡ says b) × (length b ≡ stride) × (mentioned b ≡ true) × (breaks b ≡ false)
 
 -- a slice that a record can hold and that mentions every property
 pub record Holdable (stride : ℕ) (s : Slice) : Type 0 where
@@ -43,10 +43,10 @@ pub record Holdable (stride : ℕ) (s : Slice) : Type 0 where
 
 module _ (stride : ℕ) where
   part-length : (v : Property) → Said stride v → length (partFor stride v) ≡ stride
-  part-length v (b, e, l, m) = rw e l
+  part-length v (b, e, l, m, _) = rw e l
 
   part-back : (v : Property) → Said stride v → propertyOf (partFor stride v) ≡ v
-  part-back v (b, e, l, m) = rw (e, m)
+  part-back v (b, e, l, m, _) = rw (e, m)
 
   parts-back : (vs : List Property) → ((v : Property) → In v vs → Said stride v) → map propertyOf (map (partFor stride) vs) ≡ vs
   parts-back [] h = refl
@@ -77,6 +77,10 @@ module _ (stride : ℕ) where
         ap (pieces stride 8) (sym (append-nil (joined parts)))
         ∙ ap (λ (n : ℕ). pieces stride n (joined parts ++ [])) (sym parts-eight)
         ∙ pieces-joined stride parts [] sized
+
+    pub parts-whole : any breaks parts ≡ false
+    parts-whole = none-any breaks parts (λ l m. let (v, n, e) = map-in (partFor stride) (s .properties) l m in
+        let (b, is, _, _, w) = h .said v n in rw (e, is) w)
 
     pub view-laid : viewOf stride (recordFor stride s) ≡ s
     unfolding recordFor viewOf

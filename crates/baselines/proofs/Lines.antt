@@ -1,13 +1,13 @@
 -- Both lines of a sweep behind one more slice. Assumes nothing.
 use Prim.Native.Nat.{ℕ, zero, suc}
-use mathlib.Core.Path.{_≡_, refl, sym, ap, _∙_, subst}
+use mathlib.Core.Path.{_≡_, refl, sym, subst}
 use mathlib.Core.Bool.{Bool, true, false, cond, not, _&&_, _||_}
 use mathlib.Core.List.{List, [], _∷_}
 use mathlib.Core.Logic.{⊎-elim}
 use native.Mathlib.Omega.{arith}
 use lib.ListN.{length, replicate}
 use lib.Dec.{eqb, ltb}
-use borrow.Author.Tests.{not-true, eqb-true}
+use borrow.Author.Tests.{eqb-true}
 use Rattle.laws.proofs.Tests.{tests, pick-ind, and-both, or-either}
 use Rattle.numbers.specs.Numbers.{none, isNone, given, before, sameInstant}
 use Rattle.numbers.specs.declared.Instant.{Instant}

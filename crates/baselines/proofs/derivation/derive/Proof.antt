@@ -18,7 +18,7 @@ use Rattle.baselines.specs.Noting.{noted}
 use Rattle.baselines.specs.Deriving.{derivedRecords, derivationReply}
 use Rattle.baselines.specs.Steps.{countedOf}
 use Rattle.baselines.specs.declared.counting.Counted.{Counted}
-use Rattle.baselines.proofs.Decided.{told-two, told-records, table-refused, two-refused, many-refused, few-left}
+use Rattle.baselines.proofs.DerivedTable.{told-two, told-records, table-refused, two-refused, many-refused, few-left}
 use Rattle.baselines.proofs.Passes.{derived-pass}
 use borrow.Author.Needs.{needs}
 use Rattle.baselines.proofs.derivation.derive.Statement.{statement}

@@ -1,22 +1,18 @@
 -- `baselines::drawing::carry` meets its contract: a BASELINE, or a PERMDELTA for both lines. Assumes nothing.
 use Prim.Native.Nat.{ℕ}
-use mathlib.Core.Path.{_≡_, sym, ap, subst, _∙_}
-use mathlib.Core.Bool.{Bool, true, false, not, _&&_, _||_}
+use mathlib.Core.Path.{sym, ap, subst, _∙_}
+use mathlib.Core.Bool.{Bool, not, _&&_, _||_}
 use mathlib.Core.List.{List}
-use mathlib.Core.Logic.{⊎-elim}
 use native.Mathlib.Omega.{arith}
-use lib.ListN.{length}
-use lib.Dec.{eqb, ltb}
+use lib.Dec.{ltb}
 use borrow.Author.Tests.{eq-eqb, ne-eqb}
 use Rattle.octets.specs.Writing.{pasted}
 use Rattle.numbers.specs.Numbers.{isNone, given, before, sameInstant}
-use Rattle.slice.specs.Record.{baseline, Slice, viewOf}
+use Rattle.slice.specs.Record.{baseline, viewOf}
 use Rattle.slice.specs.declared.record.Life.{Life}
-use Rattle.history.specs.State.{applied}
-use Rattle.history.specs.Sweep.{Seen, changed}
 use Rattle.state.proofs.Slices.{view-eight}
-use Rattle.baselines.specs.Sweeping.{timesOf, passedWith}
-use Rattle.baselines.specs.Carried.{Carries, recordOf, Turns, lineNow, Lines, seenWith}
+use Rattle.baselines.specs.Sweeping.{passedWith}
+use Rattle.baselines.specs.Carried.{Lines, seenWith}
 use Rattle.baselines.specs.declared.sweeping.Sweep.{Sweep}
 use Rattle.baselines.proofs.Carried.{record-first}
 use Rattle.baselines.proofs.Lines.{lines-begun, lines-changed}
