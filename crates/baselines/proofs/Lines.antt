@@ -11,22 +11,19 @@ use borrow.Author.Tests.{eqb-true}
 use Rattle.laws.proofs.Tests.{tests, pick-ind, and-both, or-either}
 use Rattle.numbers.specs.Numbers.{none, isNone, given, before, sameInstant}
 use Rattle.numbers.specs.declared.Instant.{Instant}
-use Rattle.slice.specs.Record.{baseline, permdelta, Property, unmentioned, says, Slice}
+use Rattle.slice.specs.Record.{baseline, permdelta, Property, unmentioned, Slice}
 use Rattle.history.specs.Counted.{counts}
-use Rattle.history.specs.State.{State, started, newer, over, newTime, applied}
+use Rattle.history.specs.State.{State, started, over, newTime, applied}
 use Rattle.history.specs.Sweep.{Seen, begun, changed, isCounted}
+use Rattle.history.proofs.Parts.{newer-unmentioned}
 use Rattle.baselines.specs.Carried.{Carries, recordOf, Turns, unknownState, lineNow, Lines, seenWith}
 
 -- ---- a slice that opens, applied to the unknown: it starts its own state
-newer-unknown : (v : Property) → newer v unmentioned ≡ v
-newer-unknown unmentioned = refl
-newer-unknown (says b) = refl
-
 over-unknown : (n : ℕ) (vs : List Property) → length vs ≡ n → over vs (replicate n unmentioned) ≡ vs
 over-unknown zero [] e = refl
 over-unknown zero (v ∷ vs) e = absurd (omega arith)
 over-unknown (suc n) [] e = absurd (omega arith)
-over-unknown (suc n) (v ∷ vs) e = λ i. newer-unknown v i ∷ over-unknown n vs (omega arith) i
+over-unknown (suc n) (v ∷ vs) e = λ i. newer-unmentioned v i ∷ over-unknown n vs (omega arith) i
 
 time-unknown : (t : Instant) → newTime t none ≡ t
 unfolding newTime isNone

@@ -174,6 +174,6 @@ pub(crate) fn draw_all(permanent: &[u8], events: &[u64], output: &mut [u8])
     let mut lines = [0u8; 320];
     let base = &mut bases[0..size + stride];
     let line = &mut lines[0..size + stride];
-    put_unknown(&mut line[0..size], stride);
+    put_unknown(line, stride);
     draw_events(permanent, events, base, line, output);
 }
