@@ -7,59 +7,51 @@ use mathlib.Core.Logic.{inl, inr, ⊎-elim}
 use native.Mathlib.Nat.{zero-mul, suc-mul}
 use native.Mathlib.Omega.{arith}
 use lib.ListN.{length, take, drop, getD, replicate, length-append, length-map, List·getD-map, length-replicate, getD-replicate}
-use lib.ListN.{replicate-append-replicate, take-append-drop}
-use lib.Seq.{length-take-le, take-at, take-append-le, drop-append-le}
+use lib.ListN.{replicate-append-replicate, length-drop, take-append-drop}
+use lib.Seq.{length-take-le}
 use lib.Dec.{eqb, ltb}
-use borrow.Author.Tests.{eq-eqb, ne-eqb}
-use Rattle.laws.specs.Lists.{joined}
+use borrow.Author.Tests.{eq-eqb, ne-eqb, not-true}
+use Rattle.laws.specs.Lists.{joined, all}
 use Rattle.laws.specs.Keyed.{In}
-use Rattle.laws.proofs.Tests.{tests}
-use Rattle.laws.proofs.Lists.{getD-in, map-in}
-use Rattle.laws.proofs.Pieces.{Sized}
-use Rattle.octets.specs.Bytes.{byteOf}
+use Rattle.laws.proofs.Tests.{tests, contrary, and-both}
+use Rattle.laws.proofs.Lists.{getD-in, map-in, in-map, all-in, rest-whole}
+use Rattle.laws.proofs.Pieces.{Sized, pieces-sized, joined-pieces}
+use Rattle.octets.specs.Bytes.{byteOf, beOf, filled, Bytes}
 use Rattle.octets.specs.Writing.{bytesOf, pasted}
-use Rattle.octets.proofs.Writing.{pasted-whole, pasted-length}
-use Rattle.state.proofs.Pasting.{pasted-all}
-use Rattle.property.specs.Eight.{mentioned}
+use Rattle.octets.proofs.Writing.{over-middle, take-pasted, put-piece, keep-piece, all-pieces}
+use Rattle.octets.proofs.Stored.{number-bytes, zero-bytes, cut}
 use Rattle.numbers.specs.Numbers.{noInstant, isNone}
 use Rattle.numbers.specs.declared.Instant.{Instant}
-use Rattle.slice.specs.Record.{recordSize, Property, unmentioned, says, Slice, viewOf}
+use Rattle.property.specs.Eight.{mentioned, propertiesOf}
+use Rattle.slice.specs.Record.{recordSize, Property, unmentioned, says, Slice, viewOf, baseline, partsOf, isMentioned, propertyOf}
 use Rattle.slice.proofs.View.{property-mentioned}
-use Rattle.history.specs.State.{State, newer, over, newTime}
+use Rattle.slice.specs.Rules.{contentOf, contentRight}
+use Rattle.slice.specs.declared.check.Checked.the-variants.{Sound}
+use Rattle.slice.proofs.Times.{instant-most}
+use Rattle.table.specs.Header.{countOf, strideOf, recordAt}
+use Rattle.table.specs.Rules.{checkTable}
+use Rattle.table.specs.declared.check.Sides.the-variants.{Permanent}
+use Rattle.table.proofs.Sound.{sound-table}
+use Rattle.table.proofs.Records.{record-in}
+use Rattle.table.proofs.Stays.{sound-in}
+use Rattle.history.specs.State.{State, newer, over, newTime, started}
 use Rattle.history.specs.Derived.{baselineOf}
 use Rattle.history.specs.Source.{mentions}
 use Rattle.history.specs.Parts.{tells}
 use Rattle.history.proofs.Parts.{over-at, over-length}
-use Rattle.state.proofs.Slices.{propertyAt, view-property}
+use Rattle.history.specs.Counted.{counts}
+use Rattle.state.proofs.Pasting.{pasted-all}
+use Rattle.state.proofs.Slices.{propertyAt, view-property, view-eight}
 use Rattle.state.proofs.Views.{tells-property}
 use Rattle.state.specs.Written.{nilUnknown, propertyBytes}
+use Rattle.state.proofs.RecordProperties.{mention-bytes}
 use Rattle.baselines.specs.Laid.{partFor, recordFor}
 use Rattle.baselines.specs.Steps.{drawnRecord}
 use Rattle.baselines.specs.Carried.{tailOf, Carries, mentionsOver, unknownState}
-use Rattle.baselines.proofs.Pasted.{over-middle, filled-by, put-piece, keep-piece, all-pieces}
+use Rattle.baselines.proofs.Laid.{filled-by}
+use Rattle.baselines.proofs.Noted.{bytes-records}
 
 -- ---- the record of a line, in front of what goes nowhere
-pasted-front : (a x c : List ℕ) (at : ℕ) → at + length x ≤ length a → pasted (a ++ c) at x ≡ pasted a at x ++ c
-pasted-front a x c at h =
-    pasted-whole (a ++ c) x at (omega (arith, length-append a c))
-    ∙ (λ i. take-append-le at a c (omega arith) i ++ (x ++ drop-append-le (at + length x) a c h i))
-    ∙ ap (λ (l : List ℕ). take at a ++ l) (sym (append-assoc x (drop (at + length x) a) c))
-    ∙ sym (append-assoc (take at a) (x ++ drop (at + length x) a) c)
-    ∙ ap (λ (l : List ℕ). l ++ c) (sym (pasted-whole a x at h))
-
-take-pasted : (n : ℕ) (d x : List ℕ) (at : ℕ) → at + length x ≤ n → n ≤ length d → take n (pasted d at x) ≡ pasted (take n d) at x
-take-pasted n d x at h k =
-    let l : length (take n d) ≡ n = length-take-le n d k in
-    let whole : take n d ++ drop n d ≡ d = take-append-drop n d in
-    ap (λ (c : List ℕ). take n (pasted c at x)) (sym whole)
-    ∙ ap (take n) (pasted-front (take n d) x (drop n d) at (omega arith))
-    ∙ take-at (pasted (take n d) at x) (drop n d) n (pasted-length (take n d) x at ∙ l)
-
--- what is written behind it leaves it as it was
-pub take-behind : (n : ℕ) (d x : List ℕ) → n + length x ≤ length d → take n (pasted d n x) ≡ take n d
-take-behind n d x h =
-    ap (take n) (pasted-whole d x n h) ∙ take-at (take n d) (x ++ drop (n + length x) d) n (length-take-le n d (omega arith))
-
 -- a record that is written over it
 pub record-first : (stride : ℕ) (d r : List ℕ) → length r ≡ recordSize stride → recordSize stride ≤ length d
     → take (recordSize stride) (pasted d 0 r) ≡ r
@@ -74,11 +66,6 @@ pub take-time : (stride : ℕ) (b : Bool) (d r x : List ℕ) (at : ℕ) → at +
     → take (recordSize stride) d ≡ cond b (take (recordSize stride) r) (pasted (take (recordSize stride) r) at x)
 take-time stride true d r x at h k e = ap (take (recordSize stride)) e
 take-time stride false d r x at h k e = ap (take (recordSize stride)) e ∙ take-pasted (recordSize stride) r x at h k
-
--- a property that is written into it
-pub take-property : (stride : ℕ) (d x : List ℕ) (at : ℕ) → at + length x ≤ recordSize stride → recordSize stride ≤ length d
-    → take (recordSize stride) (pasted d at x) ≡ pasted (take (recordSize stride) d) at x
-take-property stride d x at = take-pasted (recordSize stride) d x at
 
 -- ---- properties, replaced where they are mentioned
 module _ (stride : ℕ) where
@@ -310,3 +297,63 @@ module _ (stride : ℕ) where
       born = omega arith;
       gone = omega arith;
     }
+
+-- ---- properties that are all mentioned are written as they stand
+module _ (stride : ℕ) where
+  all-written : (xs : List (List ℕ)) → ((x : List ℕ) → In x xs → isMentioned (propertyOf x) ≡ true)
+      → map (propertyBytes stride) (map propertyOf xs) ≡ xs
+  all-written [] h = refl
+  all-written (x ∷ xs) h = λ i. mention-bytes stride (mentioned x) x (h x (inl refl)) i ∷ all-written xs (λ y m. h y (inr m)) i
+
+  module _ (r : List ℕ) (bytes : Bytes r) (size : length r ≡ recordSize stride) (clear : filled 0 8 r 24 ≡ true)
+      (every : all isMentioned (viewOf stride r .properties) ≡ true) where
+    parts-mentioned : (x : List ℕ) → In x (partsOf stride r) → isMentioned (propertyOf x) ≡ true
+    unfolding viewOf
+    parts-mentioned x m =
+        all-in isMentioned (map propertyOf (partsOf stride r)) every (propertyOf x) (in-map propertyOf (partsOf stride r) x m)
+
+    parts-laid : joined (map (propertyBytes stride) (viewOf stride r .properties)) ≡ drop 32 r
+    unfolding viewOf propertiesOf
+    parts-laid =
+        let n : 8 * stride ≡ length r - 32 = omega arith in
+        ap joined (all-written (partsOf stride r) parts-mentioned)
+        ∙ joined-pieces stride 8 (drop 32 r)
+        ∙ ap (λ (m : ℕ). take m (drop 32 r)) n
+        ∙ rest-whole 32 r
+
+    carry-record : Carries stride (started (viewOf stride r)) r
+    unfolding viewOf propertiesOf noInstant
+    carry-record = record {
+      front = take 16 r;
+      long = length-take-le 16 r (omega arith);
+      is = sym (take-append-drop 16 r) ∙ ap (λ (l : List ℕ). take 16 r ++ l)
+          (cut 4 16 r _ (number-bytes r 16 bytes (omega arith))
+          ∙ ap (λ (l : List ℕ). bytesOf 4 (beOf 4 r 16) ++ l)
+          (cut 4 20 r _ (number-bytes r 20 bytes (omega arith))
+          ∙ ap (λ (l : List ℕ). bytesOf 4 (beOf 4 r 20) ++ l)
+          (cut 8 24 r _ (zero-bytes r 8 24 clear (omega arith)) ∙ ap (λ (l : List ℕ). replicate 8 0 ++ l) (sym parts-laid))));
+      eight = view-eight stride r;
+      sized = λ v m. let (x, n, e) = map-in propertyOf (partsOf stride r) v m in
+          ap (λ (w : Property). length (propertyBytes stride w)) e
+          ∙ ap length (mention-bytes stride (mentioned x) x (parts-mentioned x n))
+          ∙ pieces-sized stride 8 (drop 32 r) (simp length-drop (omega arith)) x n;
+      born = omega (arith, instant-most r 16 bytes);
+      gone = omega (arith, instant-most r 20 bytes);
+    }
+
+-- ---- a BASELINE of a sound table
+module _ (p : List ℕ) (bytes : Bytes p) (sound : checkTable Permanent p ≡ Sound) where
+  abbrev at : ℕ → List ℕ
+  at i = recordAt (recordSize (strideOf p)) i p
+
+  pub carry-base : (i : ℕ) → i < countOf p → counts baseline (viewOf (strideOf p) (at i)) ≡ true
+      → Carries (strideOf p) (started (viewOf (strideOf p) (at i))) (at i)
+  unfolding counts contentRight contentOf viewOf
+  carry-base i h c =
+      let (k, n) = and-both (eqb (viewOf (strideOf p) (at i) .kind) baseline) (not (viewOf (strideOf p) (at i) .cancelled)) c in
+      let m = record-in (recordSize (strideOf p)) p i h (sound-table Permanent p sound .roomy) in
+      let good = sound-in Permanent p sound (at i) m in
+      ⊎-elim
+      (λ x. contrary (x .cancelled) (not-true _ n))
+      (λ x. carry-record (strideOf p) (at i) (bytes-records p bytes (at i) m) (good .size) (good .reserved) (rw k at (x .content)))
+      (good .rest)

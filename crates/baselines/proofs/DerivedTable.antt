@@ -3,10 +3,12 @@
 use Prim.Native.Nat.{ℕ, _≤_, _<_, _+_, _*_}
 use mathlib.Core.Path.{_≡_, refl, sym, ap, _∙_}
 use mathlib.Core.Bool.{Bool, true, false, cond, true≢false}
-use mathlib.Core.List.{List, _++_, map}
+use mathlib.Core.List.{List, _++_, map, append-assoc}
 use native.Mathlib.Omega.{arith}
-use lib.ListN.{length}
+use native.Mathlib.Nat.{zero-add}
+use lib.ListN.{length, drop, replicate, length-append, length-drop}
 use lib.Dec.{ltb}
+use lib.Seq.{length-take-le}
 use borrow.Author.Tests.{lt-ltb, le-ltb, ltb-false}
 use Rattle.laws.specs.Lists.{any, joined}
 use Rattle.laws.specs.Refusals.{refuse}
@@ -15,10 +17,12 @@ use Rattle.laws.proofs.Tests.{or-neither}
 use Rattle.laws.proofs.Pieces.{Sized, joined-length}
 use Rattle.laws.proofs.Refusals.{passed-split, passed-answer}
 use Rattle.octets.specs.Bytes.{Bytes}
+use Rattle.octets.specs.Writing.{pasted}
+use Rattle.octets.proofs.Writing.{pasted-then, pasted-whole}
 use Rattle.slice.specs.Record.{permanent, recordSize, viewOf}
 use Rattle.slice.specs.declared.check.Refusal.{Refusal}
 use Rattle.slice.specs.declared.check.Checked.the-variants.{Sound, Refused}
-use Rattle.table.specs.Header.{strideOf, countOf, featureOf, roomOf, recordsOf, written}
+use Rattle.table.specs.Header.{strideOf, countOf, featureOf, roomOf, recordsOf, written, headerOf}
 use Rattle.table.specs.Rules.{fails, tableTests, checkTable, takes}
 use Rattle.table.specs.Arriving.{creationOf}
 use Rattle.table.specs.Deliveries.{holding}
@@ -39,7 +43,6 @@ use Rattle.baselines.specs.Steps.{countedOf, handedOf}
 use Rattle.baselines.specs.declared.derivation.Derivation.the-variants as derivation
 use Rattle.baselines.specs.declared.counting.Counted.the-variants.{Two, Records}
 use Rattle.baselines.specs.declared.derivation.Derivation.the-variants.{Derived}
-use Rattle.baselines.proofs.Pasted.{feature-long}
 use Rattle.baselines.proofs.Passes.{derived-views, derived-up}
 
 -- ---- what the first sweep tells
@@ -86,7 +89,24 @@ module _ (p output : List ℕ) where
       unfolding derivingTests handedOf
       few-left h = sym (left ∙ rw (one, sound, le-ltb _ _ h))
 
--- a derivation that is not refused
+-- ---- the header
+-- it names a feature of 16 bytes
+pub feature-long : (t : List ℕ) → 32 ≤ length t → length (featureOf t) ≡ 16
+feature-long t h = length-take-le 16 (drop 8 t) (simp length-drop (omega arith))
+
+-- the header and then the records, and every byte beyond them
+pub handed : (d feature r : List ℕ) (n : ℕ) → length feature ≡ 16 → 32 + length r ≤ length d
+    → pasted (pasted d 0 (headerOf permanent feature n)) 32 r ≡ headerOf permanent feature n ++ (r ++ drop (32 + length r) d)
+handed d feature r n k h =
+    let head = headerOf permanent feature n in
+    let l : length head ≡ 32 = omega (arith, length-append feature (replicate 8 0)) in
+    let m : length (head ++ r) ≡ 32 + length r = length-append head r ∙ omega arith in
+    pasted-then d head r 0 32 (omega arith) (omega arith)
+    ∙ pasted-whole d (head ++ r) 0 (omega arith)
+    ∙ ap (λ (m : ℕ). (head ++ r) ++ drop m d) (zero-add (length (head ++ r)) ∙ m)
+    ∙ append-assoc head r (drop (32 + length r) d)
+
+-- ---- a derivation that is not refused
 pub record Deriving (p output : List ℕ) (n : ℕ) : Type 0 where
   pub table : checkTable Permanent p ≡ Sound
   pub one : twoAnchors (slicesOf p) ≡ false

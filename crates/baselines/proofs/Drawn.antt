@@ -2,14 +2,14 @@
 use Prim.Native.Nat.{ℕ, _+_, _*_, _≤_, _<_}
 use mathlib.Core.Path.{_≡_, sym, ap, _∙_, subst}
 use mathlib.Core.Bool.{Bool, true, false}
-use mathlib.Core.List.{List, [], _∷_, _++_, append-nil}
+use mathlib.Core.List.{List, [], _∷_, _++_}
 use native.Mathlib.Omega.{arith}
 use lib.ListN.{length, take, drop, getD, length-append}
 use lib.Seq.{drop-drop}
 use borrow.Rule.Slice.PartMut.{putMid}
 use Rattle.laws.specs.Lists.{joined}
 use Rattle.laws.proofs.Tests.{tests, contrary, never}
-use Rattle.laws.proofs.Pieces.{joined-append}
+use Rattle.laws.proofs.Pieces.{joined-more}
 use Rattle.octets.specs.Bytes.{Bytes}
 use Rattle.octets.specs.Writing.{pasted}
 use Rattle.octets.proofs.Writing.{pasted-whole, pasted-then, pasted-length}
@@ -37,9 +37,6 @@ unfolding before
 never-before t = omega tests
 
 -- ---- records
-joined-more : (done : List (List ℕ)) (r : List ℕ) → joined (done ++ (r ∷ [])) ≡ joined done ++ r
-joined-more done r = joined-append 0 done (r ∷ []) ∙ ap (λ (l : List ℕ). joined done ++ l) (append-nil r)
-
 -- one more, behind those before it
 drawn-behind : (o : List ℕ) (done : List (List ℕ)) (r : List ℕ) (from k : ℕ) → from ≡ 32 + length (joined done) → k ≡ length r
     → from + length r ≤ length o
@@ -50,7 +47,7 @@ drawn-behind o done r from k e q h =
     ap (λ (l : List ℕ). take from d ++ (r ++ l)) (drop-drop k from d ∙ ap (λ (m : ℕ). drop (from + m) d) q)
     ∙ sym (pasted-whole d r from n)
     ∙ pasted-then o (joined done) r 32 from (sym e) h
-    ∙ ap (pasted o 32) (sym (joined-more done r))
+    ∙ ap (pasted o 32) (sym (joined-more 0 done r))
 
 -- ---- the records of the change instants before are drawn, and both lines are at hand
 pub record Drawing (p E o base line output : List ℕ) (s : Sweep) (at : ℕ) (t : Instant) (count : ℕ) : Type 0 where
@@ -62,8 +59,8 @@ pub record Drawing (p E o base line output : List ℕ) (s : Sweep) (at : ℕ) (t
   pub drawn : output ≡ pasted o 32 (joined done)
 
 pub drawing-start : {p E o base line : List ℕ} → Bytes p → Sweepable p E → FitsIn p o → Lined (strideOf p) base line
-    → Carries (strideOf p) unknownState (recordOf (strideOf p) line) → {t : Instant} → t ≡ headOf E → {s : Sweep} → s ≡ timesOf nothing
-    → Drawing p E o base line o s 0 t 0
+    → Carries (strideOf p) unknownState (recordOf (strideOf p) line) → {t : Instant} → t ≡ headOf E → {s : Sweep}
+    → s ≡ timesOf nothing → Drawing p E o base line o s 0 t 0
 drawing-start {o = o} bytes (sound, are, _) fits long says {t} e k = record {
   xs = [];
   done = [];
@@ -77,10 +74,10 @@ module _ {p E o base line output : List ℕ} {s : Sweep} {at : ℕ} {t : Instant
     (d : Drawing p E o base line output s at t count) {next : Instant} {same : Bool} (u : Turn E at t next same) where
   -- ---- an event of the instant
   module _ (now : same ≡ true) where
-    pub drawing-record : {place : ℕ} → place ≡ placeOf (getD E at 0) → {r : List ℕ} → r ≡ recordAt (recordSize (strideOf p)) place p
-        → place < 256 → {n : ℕ} → n ≡ strideOf p → {s' : Sweep} → s' ≡ passedWith s r t
-        → {base' line' : List ℕ} → GoesOn n s r t base line base' line' → length base' ≡ length base → length line' ≡ length line
-        → Drawing p E o base' line' output s' (at + 1) t count
+    pub drawing-record : {place : ℕ} → place ≡ placeOf (getD E at 0) → {r : List ℕ}
+        → r ≡ recordAt (recordSize (strideOf p)) place p → place < 256 → {n : ℕ} → n ≡ strideOf p → {s' : Sweep}
+        → s' ≡ passedWith s r t → {base' line' : List ℕ} → GoesOn n s r t base line base' line' → length base' ≡ length base
+        → length line' ≡ length line → Drawing p E o base' line' output s' (at + 1) t count
     drawing-record q {r} f small e k {base'} {line'} goes b l = record {
       xs = _;
       done = d .done;
@@ -137,7 +134,7 @@ module _ {p E o base line output : List ℕ} {s : Sweep} {at : ℕ} {t : Instant
         arith,
         going-drawn (d .going) .1,
         going-drawn more .1,
-        ap length (joined-more (d .done) r),
+        ap length (joined-more 0 (d .done) r),
         length-append (joined (d .done)) r,
       )
 
@@ -148,8 +145,8 @@ module _ {p E o base line output : List ℕ} {s : Sweep} {at : ℕ} {t : Instant
           let k : length output ≡ length o = ap length (d .drawn) ∙ pasted-length o (joined (d .done)) 32 in
           rw size-is (omega (arith, fits .0), omega (arith, fits .0), omega (arith, fits .1))
 
-      pub drawing-more : {n : ℕ} → n ≡ strideOf p → {q : List ℕ} → DrawsKnown n s t base line (count + 1) end q → {k : ℕ} → k ≡ size
-          → Drawing p E o base line (putMid (32 + count * size) k output q) s at end (count + 1)
+      pub drawing-more : {n : ℕ} → n ≡ strideOf p → {q : List ℕ} → DrawsKnown n s t base line (count + 1) end q → {k : ℕ}
+          → k ≡ size → Drawing p E o base line (putMid (32 + count * size) k output q) s at end (count + 1)
       drawing-more {n} z {q} draws {k} y = record {
         xs = d .xs;
         done = d .done ++ (r ∷ []);

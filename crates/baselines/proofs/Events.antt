@@ -8,35 +8,35 @@ use mathlib.Core.Logic.{_⊎_, inl, inr, ⊎-elim}
 use native.Mathlib.Omega.{arith}
 use lib.ListN.{length, getD, length-append}
 use lib.Dec.{eqb}
-use borrow.Author.Tests.{eqb-true, eq-eqb}
+use borrow.Author.Tests.{eq-eqb}
 use Rattle.laws.specs.Keyed.{In}
 use Rattle.laws.proofs.Tests.{tests, pick-ind, by-test, contrary, iff, and-both, or-either}
 use Rattle.laws.proofs.Lists.{getD-in, in-at}
-use Rattle.octets.specs.Bytes.{byteOf, beOf, digits, each, there, filled, Bytes}
+use Rattle.octets.specs.Bytes.{byteOf, beOf, each, there, filled, Bytes}
 use Rattle.octets.proofs.Runs.{filled-join}
+use Rattle.octets.proofs.Stored.{digits-full}
 use Rattle.numbers.specs.Numbers.{noInstant, isNone, given}
 use Rattle.numbers.specs.declared.Instant.{Instant}
 use Rattle.events.specs.Order.{timeOf, placeOf, eventOf, inOrder, Pairs}
 use Rattle.events.proofs.Ordering.{time-of-event, place-of-event, order-in, in-order, order-length, Ordered, order-pairs}
-use Rattle.slice.specs.Record.{baseline, permdelta, ofSide, recordSize, periodOf, lifeOf, Slice, viewOf}
+use Rattle.slice.specs.Record.{baseline, permdelta, ofSide, periodOf, lifeOf, Slice, viewOf}
 use Rattle.slice.specs.Rules.{timesOf, timesRight}
 use Rattle.slice.specs.declared.check.Checked.the-variants.{Sound}
 use Rattle.slice.proofs.Times.{begin-given, baseline-times}
-use Rattle.table.specs.Header.{sideOf, countOf, strideOf, roomOf}
+use Rattle.table.specs.Header.{sideOf, countOf}
 use Rattle.table.specs.Rules.{checkTable}
 use Rattle.table.specs.declared.check.Sides.the-variants.{Permanent}
 use Rattle.table.proofs.Sound.{sound-table}
 use Rattle.table.proofs.Stays.{sound-in}
 use Rattle.history.specs.Counted.{counts}
 use Rattle.history.specs.Sweep.{isCounted}
-use Rattle.history.proofs.Orders.{counts-kind}
+use Rattle.history.proofs.Orders.{counts-kind, uncancelled}
 use Rattle.history.proofs.Selection.{append-in}
 use Rattle.state.specs.Asking.{slicesOf}
 use Rattle.state.proofs.Slices.{slices-length, slice-at, slice-view}
 use Rattle.baselines.specs.Noting.{nowhere, notes, begins, goneOf, lifeEnds, noted}
-use Rattle.baselines.proofs.Changes.{slice-bounded}
-use Rattle.baselines.proofs.Noted.{sliceAt, count-most}
-use Rattle.baselines.proofs.Passes.{low, uncancelled, counted-right, kind-times}
+use Rattle.baselines.proofs.Noted.{slice-bounded, sliceAt, roomy, count-most}
+use Rattle.baselines.proofs.Passes.{low, counted-right, kind-times}
 
 -- ---- the times that some slices give, the first of which stands at place i
 module _ (time : Slice → Instant) (place : ℕ → ℕ) where
@@ -108,14 +108,6 @@ ends-nowhere (x ∷ xs) f m =
     ap placeOf q ∙ place-of-event (goneOf (getD (x ∷ xs) k x)) nowhere (omega arith)
 
 -- ---- a cancelled record gives no time
--- bytes that are all alike make one number
-digits-full : (r : List ℕ) (v n at : ℕ) → each (λ i. eqb (byteOf r i) v) n at ≡ true
-    → digits (byteOf r) n at ≡ digits (λ _. v) n at
-digits-full r v zero at h = refl
-digits-full r v (suc n) at h =
-    let (p, q) = and-both (each (λ i. eqb (byteOf r i) v) n at) (eqb (byteOf r (at + n)) v) h in
-    rw (digits-full r v n at p, eqb-true (byteOf r (at + n)) v q)
-
 full-none : (r : List ℕ) (at : ℕ) → filled 255 4 r at ≡ true → eqb (beOf 4 r at) noInstant ≡ true
 unfolding filled beOf noInstant
 full-none r at h =
@@ -212,24 +204,21 @@ module _ (p : List ℕ) (bytes : Bytes p) (sound : checkTable Permanent p ≡ So
   gone-counts b m k g = ⊎-elim (λ t. contrary g (ap not (t .1))) (λ (u : b .cancelled ≡ false). rw (k, u)) (timeless-or b m)
 
   -- ---- its events
-  -- its records, place by place
-  roomy : countOf p ≤ roomOf (recordSize (strideOf p)) p
-  roomy = sound-table Permanent p sound .roomy
-
-  pub most : countOf p ≤ 256
+  most : countOf p ≤ 256
   most = count-most p sound
 
   pub in-slices : (j : ℕ) → j < countOf p → In (sliceAt p j) slices
   in-slices j h =
-      subst (λ s. In s slices) (slice-at p j (sliceAt p j) h roomy)
+      subst (λ s. In s slices) (slice-at p j (sliceAt p j) h (roomy p sound))
       (getD-in slices j (sliceAt p j) (omega (arith, slices-length p)))
 
   -- a slice by its place
-  place-of : (x : Slice) → In x slices → (j : ℕ) × (j < length slices) × (j < countOf p) × (getD slices j x ≡ x) × (sliceAt p j ≡ x)
+  place-of : (x : Slice) → In x slices
+      → (j : ℕ) × (j < length slices) × (j < countOf p) × (getD slices j x ≡ x) × (sliceAt p j ≡ x)
   place-of x m =
       let (j, h, e) = in-at slices x x m in
       let l : j < countOf p = omega (arith, slices-length p) in
-      (j, h, l, e, sym (slice-at p j x l roomy) ∙ e)
+      (j, h, l, e, sym (slice-at p j x l (roomy p sound)) ∙ e)
 
   -- the begin of a record, and the life end of a BASELINE, as events
   begin-event : (j : ℕ) → j < countOf p → let t = sliceAt p j .period .begin in
@@ -247,11 +236,11 @@ module _ (p : List ℕ) (bytes : Bytes p) (sound : checkTable Permanent p ≡ So
   from-begins e m =
       let (k, h, g, q) = notes-in (λ s. s .period .begin) (λ j. j) 0 slices (sliceAt p 0) e m in
       let l : k < countOf p = omega (arith, slices-length p) in
-      let s = slice-at p k (sliceAt p 0) l roomy in
+      let s = slice-at p k (sliceAt p 0) l (roomy p sound) in
       let z : 0 + k ≡ k = omega arith in
       let is : e ≡ eventOf (sliceAt p k .period .begin) k = q ∙ rw (s, z) in
       let (place, time) = begin-event k l in
-      rw (is, place, time) (l, refl, counted-given (sliceAt p k) (in-slices k l) ∙ subst (λ d. given (d .period .begin) ≡ true) s g)
+      rw (is, place, time) (l, refl, counted-given (sliceAt p k) (in-slices k l) ∙ ap (λ d. given (d .period .begin)) (sym s) ∙ g)
 
   from-ends : (e : ℕ) → In e (lifeEnds 0 slices) → IsGone p e
   from-ends e m =

@@ -36,15 +36,14 @@ use Rattle.baselines.specs.Carried.{Comes}
 use Rattle.baselines.specs.Deriving.{derivedRecords}
 use Rattle.baselines.specs.Steps.{drawnRecord}
 use Rattle.baselines.specs.declared.sweeping.Sweep.{Sweep}
-use Rattle.baselines.proofs.Changes.{slices-bounded}
-use Rattle.baselines.proofs.Noted.{sliceAt}
+use Rattle.baselines.proofs.Noted.{slices-bounded, sliceAt}
 use Rattle.baselines.proofs.Events.{Eventful, eventful}
 use Rattle.baselines.proofs.Swept.{Run, first-here, run-start, run-on, record-here, run-record, run-gone, two-here}
 use Rattle.baselines.proofs.Swept.{state-here, next-here}
-use Rattle.baselines.proofs.Told.{pass-told, openings-few, two-times, next-times, known-told, unknown-told}
+use Rattle.baselines.proofs.Lines.{pass-told, openings-few, two-times, next-times, known-told, unknown-told}
 use Rattle.baselines.proofs.Walked.{drawnFrom, Walked, walked-none, walked-given, walked-in, walked-on, walked-past}
 use Rattle.baselines.proofs.Walked.{walked-more, walked-all}
-use Rattle.baselines.proofs.Based.{carry-base}
+use Rattle.baselines.proofs.Carried.{carry-base}
 use Rattle.baselines.proofs.Passes.{derived-sized}
 
 -- a sweep is at an event and an instant: it has passed some slices, and its times are those of what it has seen; the records of

@@ -1,5 +1,5 @@
 -- A slice as a record: the record says that slice again. Assumes nothing.
-use Prim.Native.Nat.{ℕ, _+_, _*_, _/_, _%_, _≤_, _<_}
+use Prim.Native.Nat.{ℕ, _+_, _*_, _%_, _≤_, _<_}
 use mathlib.Core.Path.{_≡_, refl, sym, ap, _∙_}
 use mathlib.Core.List.{List, [], _∷_, _++_, map, append-nil}
 use mathlib.Core.Bool.{Bool, true, false, cond}
@@ -13,17 +13,19 @@ use Rattle.laws.proofs.Lists.{map-in, none-any}
 use Rattle.laws.proofs.Pieces.{Sized, joined-length, pieces-joined}
 use Rattle.octets.specs.Bytes.{byteOf, digits, beOf}
 use Rattle.octets.proofs.Readers.{be-whole}
+use Rattle.octets.proofs.Stored.{two-back, four-back}
 use Rattle.property.specs.Eight.{propertiesOf, breaks, mentioned}
-use Rattle.slice.specs.Record.{recordSize, partsOf, Property, says, propertyOf, Slice, viewOf}
+use Rattle.slice.specs.Record.{recordSize, partsOf, Property, says, propertyOf, Slice, viewOf, unmentioned}
+use Rattle.history.specs.Derived.{filledIn}
+use Rattle.state.specs.Written.{nilUnknown, propertyBytes}
 use Rattle.baselines.specs.Laid.{partFor, recordFor}
 
--- ---- a number from its own bytes
-two-back : (v : ℕ) → v < 65536 → (0 * 256 + v / 256 % 256) * 256 + v % 256 ≡ v
-two-back v h = omega arith
-
-four-back : (v : ℕ) → v < 4294967296
-    → (((0 * 256 + v / 256 / 256 / 256 % 256) * 256 + v / 256 / 256 % 256) * 256 + v / 256 % 256) * 256 + v % 256 ≡ v
-four-back v h = omega arith
+-- a property is written as in the state's record, by whatever writes the bytes that one says
+pub filled-by : (stride : ℕ) (write : Property → List ℕ) → ((b : List ℕ) → write (says b) ≡ b) → (vs : List Property)
+    → map write (map (filledIn (nilUnknown stride)) vs) ≡ map (propertyBytes stride) vs
+filled-by stride write own [] = refl
+filled-by stride write own (unmentioned ∷ vs) = rw (own (nilUnknown stride), filled-by stride write own vs)
+filled-by stride write own (says b ∷ vs) = rw (own b, filled-by stride write own vs)
 
 -- a property that says bytes, as many as it has, which are a mention and keep the layout
 abbrev pub Said : ℕ → Property → Type 0

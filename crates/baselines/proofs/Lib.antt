@@ -16,23 +16,15 @@ pub mod Drawn
 pub mod Going
 -- the walk from one change instant to the next, and the records of those behind it
 pub mod Walked
--- what a sweep tells from times alone is what it tells of the slices
-pub mod Told
 -- a sweep over the events of a table tells the permanent state at each change instant
 pub mod Swept
 -- what the events of a sound table are, in order
 pub mod Events
--- a record's own bytes say the state that it starts
-pub mod Based
--- both lines of a sweep behind one more slice
+-- what a sweep tells from times alone, and both of its lines behind one more slice
 pub mod Lines
 -- the record of a line, and what writing into it makes of the state that it says
 pub mod Carried
 -- a slice written as a record is read back as that slice
 pub mod Laid
--- the bytes of a derived table: its header, and its records one by one
-pub mod Pasted
--- one turn of each loop that notes the events of a table
+-- every change instant of a table is below "none"; one turn of each loop that notes the events of a table
 pub mod Noted
--- every change instant of a table is below "none"
-pub mod Changes

@@ -1,34 +1,65 @@
--- One turn of each loop that notes the events of a table. Assumes nothing.
-use Prim.Native.Nat.{ℕ, suc, _+_, _≤_, _<_}
+-- The times of a table, none of which lies above none, and one turn of each loop that notes its events. Assumes nothing.
+use Prim.Native.Nat.{ℕ, _≤_, suc, _+_, _<_}
 use mathlib.Core.Path.{_≡_, refl, sym, ap, _∙_, subst}
 use mathlib.Core.List.{List, [], _∷_, _++_, append-nil}
+use mathlib.Core.Logic.{⊎-elim, inl, inr}
 use mathlib.Core.Bool.{true, false, cond}
-use mathlib.Core.Logic.{inl, inr, ⊎-elim}
 use native.Mathlib.Omega.{arith}
-use lib.ListN.{length, take, drop, set, length-set}
+use lib.ListN.{drop, length, take, set, length-set}
 use lib.Dec.{eqb}
 use Rattle.laws.specs.Keyed.{In, Rising}
-use Rattle.laws.proofs.Tests.{tests, or-either}
+use Rattle.laws.proofs.Tests.{pick-ind, tests, or-either}
 use Rattle.laws.proofs.Put.{rising-drop}
-use Rattle.numbers.specs.Numbers.{isNone, given, noInstant}
+use Rattle.octets.specs.Bytes.{Bytes}
+use Rattle.octets.proofs.Stored.{bytes-drop, bytes-pieces}
+use Rattle.numbers.specs.Numbers.{noInstant, isNone, given}
 use Rattle.numbers.specs.declared.Instant.{Instant}
 use Rattle.events.specs.Order.{eventOf}
 use Rattle.events.proofs.Steps.{placed}
-use Rattle.slice.specs.Record.{baseline, permdelta, ofSide, recordSize, kindOf, keyLess, sameKey, Slice, viewOf}
+use Rattle.slice.specs.Record.{baseline, permdelta, recordSize, Slice, viewOf, ofSide, kindOf, keyLess, sameKey}
+use Rattle.slice.proofs.Times.{instant-most}
 use Rattle.slice.specs.declared.check.Checked.the-variants.{Sound}
 use Rattle.slice.proofs.Keys.{key-order}
-use Rattle.table.specs.Header.{sideOf, countOf, strideOf, roomOf, recordAt}
+use Rattle.table.specs.Header.{countOf, strideOf, recordsOf, sideOf, roomOf, recordAt}
 use Rattle.table.specs.Rules.{checkTable}
 use Rattle.table.specs.declared.check.Sides.the-variants.{Permanent}
 use Rattle.table.proofs.Records.{record-in, room-most}
 use Rattle.table.proofs.Sound.{sound-table}
 use Rattle.table.proofs.Stays.{sound-in}
-use Rattle.history.specs.Counted.{sliceKey}
+use Rattle.history.specs.Counted.{counts, sliceKey}
+use Rattle.history.specs.Changes.{changesBy}
+use Rattle.history.proofs.Changes.{Bounded}
 use Rattle.state.specs.Asking.{slicesOf}
-use Rattle.state.proofs.Slices.{slices-at, slices-end, sound-rising}
+use Rattle.state.proofs.Slices.{slice-view, slices-at, slices-end, sound-rising}
 use Rattle.state.proofs.BaselinesFirst.{kinds-rise}
 use Rattle.baselines.specs.Noting.{notes, lifeEnds}
 
+-- ---- the times of a table of bytes
+pub bytes-records : (p : List ℕ) → Bytes p → (r : List ℕ) → In r (recordsOf (recordSize (strideOf p)) p) → Bytes r
+unfolding recordsOf
+bytes-records p h r m = bytes-pieces (recordSize (strideOf p)) (countOf p) (drop 32 p) r (bytes-drop 32 p h) m
+
+-- each is of four bytes
+pub slice-bounded : (p : List ℕ) → Bytes p → (d : Slice) → In d (slicesOf p)
+    → (d .period .begin .0 ≤ noInstant) × (d .period .end .0 ≤ noInstant) × (d .life .begin .0 ≤ noInstant)
+    × (d .life .end .0 ≤ noInstant)
+unfolding viewOf
+slice-bounded p bytes d m =
+    let (r, n, e) = slice-view p d m in
+    let b = bytes-records p bytes r n in
+    rw e (instant-most r 8 b, instant-most r 12 b, instant-most r 16 b, instant-most r 20 b)
+
+pub slices-bounded : (p : List ℕ) → Bytes p → Bounded (slicesOf p)
+unfolding changesBy
+slices-bounded p bytes s m x =
+    let (b, e, _, g) = slice-bounded p bytes s m in
+    let is : (t : Instant) → t .0 ≤ noInstant → x ≡ t → x .0 ≤ noInstant = λ t l q. rw q l in
+    let begins = is (s .period .begin) b in
+    pick-ind (λ l. In x l → x .0 ≤ noInstant) (counts baseline s)
+    (λ _. ⊎-elim begins (⊎-elim (is (s .period .end) e) (⊎-elim (is (s .life .end) g) (λ m. absurd m))))
+    (λ _. pick-ind (λ l. In x l → x .0 ≤ noInstant) (counts permdelta s) (λ _. ⊎-elim begins (λ m. absurd m)) (λ _ m. absurd m))
+
+-- ---- the events of a table
 -- slices of kinds above BASELINE have no life end that counts
 late-ends : (i : ℕ) (l : List Slice) → ((x : Slice) → In x l → baseline < x .kind) → lifeEnds i l ≡ []
 unfolding isNone noInstant
@@ -53,7 +84,7 @@ pub record Noting (p : List ℕ) (time : Slice → Instant) (place : ℕ → ℕ
     pub all : whole ≡ take n d ++ notes time place i (drop i (slicesOf p))
 
 module _ (p : List ℕ) (sound : checkTable Permanent p ≡ Sound) where
-  roomy : countOf p ≤ roomOf (recordSize (strideOf p)) p
+  pub roomy : countOf p ≤ roomOf (recordSize (strideOf p)) p
   roomy = sound-table Permanent p sound .roomy
 
   -- it has 256 records at most
@@ -92,7 +123,8 @@ module _ {p : List ℕ} {time : Slice → Instant} {place : ℕ → ℕ} {whole 
           let s : i + 1 ≡ suc i = omega arith in
           ap (notes time place i) (slices-at p i h (roomy p (g .sound))) ∙ rw (e, s)
 
-      pub noting-one : isNone t ≡ false → {v : ℕ} → v ≡ eventOf t (place i) → Noting p time place whole from (set d n v) (n + 1) (i + 1)
+      pub noting-one : isNone t ≡ false → {v : ℕ} → v ≡ eventOf t (place i)
+          → Noting p time place whole from (set d n v) (n + 1) (i + 1)
       noting-one b {v} q = record {
         sound = g .sound;
         low = g .low;

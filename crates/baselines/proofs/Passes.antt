@@ -1,28 +1,26 @@
 -- The permanent states of a sound table, and the BASELINEs that are derived of them, are such as records can hold; the records say
 -- those BASELINEs, rise, and pass the slice check, so that a derivation is never refused with 24. Assumes nothing.
-use Prim.Native.Nat.{ℕ, suc, _+_, _≤_, _<_, _*_, _/_, _%_}
+use Prim.Native.Nat.{ℕ, suc, _+_, _≤_, _<_, _*_, _%_}
 use mathlib.Core.Path.{_≡_, refl, sym, ap, _∙_, subst}
 use mathlib.Core.List.{List, [], _∷_, map, _++_}
-use mathlib.Core.Bool.{true, false, not, true≢false}
+use mathlib.Core.Bool.{true, false, true≢false}
 use mathlib.Core.Logic.{inl, inr, ⊎-elim}
 use mathlib.Core.Option.{Option, none, some}
 use native.Mathlib.Omega.{arith}
 use lib.ListN.{length, length-map, take, drop}
-use lib.Dec.{eqb}
-use borrow.Author.Tests.{not-true, le-leb, eq-eqb}
+use borrow.Author.Tests.{le-leb}
 use Rattle.laws.specs.Keyed.{In, Rising}
-use Rattle.laws.proofs.Tests.{contrary, and-both, or-neither, by-test}
+use Rattle.laws.proofs.Tests.{contrary, by-test}
 use Rattle.laws.proofs.Lists.{map-in, any-none}
-use Rattle.laws.proofs.Orders.{true-lex}
 use Rattle.laws.specs.Lists.{any, joined}
-use Rattle.laws.specs.Refusals.{Test, Passed, FirstFails}
+use Rattle.laws.specs.Refusals.{FirstFails}
 use Rattle.laws.proofs.Pieces.{Sized, joined-length}
-use Rattle.laws.proofs.Refusals.{given-number}
+use Rattle.laws.proofs.Refusals.{given-number, first-past}
 use Rattle.laws.proofs.Replies.{refusal-tells}
 use Rattle.octets.specs.Bytes.{Bytes, filled}
-use Rattle.octets.specs.Writing.{bytesOf}
+use Rattle.octets.proofs.Stored.{bytes-round}
 use Rattle.numbers.specs.Numbers as numbers
-use Rattle.numbers.specs.Numbers.{noInstant, lowerSequence}
+use Rattle.numbers.specs.Numbers.{noInstant}
 use Rattle.numbers.specs.declared.Instant.{Instant}
 use Rattle.numbers.proofs.Orders.{instant-of}
 use Rattle.property.specs.Eight.{mentioned, breaks, eight}
@@ -45,12 +43,12 @@ use Rattle.history.specs.Changes.{changeInstants}
 use Rattle.history.specs.Parts.{tells}
 use Rattle.history.specs.Derived.{Stretch, stretches, filledIn, baselineOf, numberedFrom, derivedBaselines}
 use Rattle.history.specs.Source.{lastOf}
-use Rattle.history.proofs.Orders.{counts-kind}
+use Rattle.history.proofs.Orders.{counts-kind, uncancelled}
 use Rattle.history.proofs.Parts.{last-in, timeIn, line-begin, line-end, applied-length}
 use Rattle.history.proofs.Line.{line-in, known-line, line-within}
 use Rattle.history.proofs.Changes.{changes-below}
 use Rattle.history.proofs.Steady.{Timely}
-use Rattle.history.proofs.Stretches.{stretched, numbered-in}
+use Rattle.history.proofs.Stretches.{stretched, numbered-in, numbered-length, numbered-rising}
 use Rattle.history.proofs.DerivedRules.{line-begun, Born, drawn-times, drawn-content}
 use Rattle.state.specs.Written.{nilUnknown}
 use Rattle.state.specs.Asking.{slicesOf, permanentTests}
@@ -58,26 +56,13 @@ use Rattle.state.proofs.Slices.{rising-views, slice-view, slice-eight, slice-si
 use Rattle.state.proofs.PropertyPlace.{tests-sound}
 use Rattle.baselines.specs.Laid.{recordFor}
 use Rattle.baselines.specs.Deriving.{derivedRecords, derivingTests, refusedDerivation, derivationOf, derivationReply}
-use Rattle.baselines.proofs.Changes.{slice-bounded, slices-bounded}
+use Rattle.baselines.proofs.Noted.{slice-bounded, slices-bounded}
 use Rattle.baselines.proofs.Laid.{Said, Holdable, view-laid, laid-length, parts-of, parts-whole}
 use Rattle.baselines.specs.declared.derivation.Derivation.the-variants.{Derived}
 
 pub low : (x : ℕ) → x ≤ noInstant → x < 4294967296
 unfolding noInstant
 low x h = omega arith
-
-pub uncancelled : (kind : ℕ) (d : Slice) → counts kind d ≡ true → d .cancelled ≡ false
-unfolding counts
-uncancelled kind d c = not-true (d .cancelled) (and-both (eqb (d .kind) kind) (not (d .cancelled)) c .1)
-
--- four bytes of a number are those of its last 32 bits
-bytes-round : (v : ℕ) → bytesOf 4 v ≡ bytesOf 4 (v % 4294967296)
-bytes-round v =
-    let a : v / 256 / 256 / 256 % 256 ≡ v % 4294967296 / 256 / 256 / 256 % 256 = omega arith in
-    let b : v / 256 / 256 % 256 ≡ v % 4294967296 / 256 / 256 % 256 = omega arith in
-    let c : v / 256 % 256 ≡ v % 4294967296 / 256 % 256 = omega arith in
-    let d : v % 256 ≡ v % 4294967296 % 256 = omega arith in
-    λ i. a i ∷ b i ∷ c i ∷ d i ∷ []
 
 module _ (p : List ℕ) (bytes : Bytes p) (sound : checkTable Permanent p ≡ Sound) where
   abbrev slices : List Slice
@@ -198,38 +183,19 @@ module _ (p : List ℕ) (bytes : Bytes p) (sound : checkTable Permanent p ≡ So
             (suc n) l (omega arith) (λ x m. h x (inr m)),
       )
 
-  numbered-length : (n : ℕ) (l : List Stretch) → length (numberedFrom unknown n l) ≡ length l
-  numbered-length n [] = refl
-  numbered-length n (s ∷ l) = ap suc (numbered-length (suc n) l)
-
   pub derived-views : length (derivedRecords p) ≤ 256
       → map (viewOf (strideOf p)) (derivedRecords p) ≡ derivedBaselines unknown slices
   unfolding derivedRecords derivedBaselines
   derived-views k =
       let n = length-map (numberedFrom unknown 1 (stretches slices)) (recordFor (strideOf p)) in
-      numbered-views 1 (stretches slices) (omega (arith, n, numbered-length 1 (stretches slices))) (λ s m. m)
+      numbered-views 1 (stretches slices) (omega (arith, n, numbered-length unknown 1 (stretches slices))) (λ s m. m)
 
   -- and rise by their sequence numbers
-  numbered-above : (n : ℕ) (l : List Stretch) (b : Slice) → In b (numberedFrom unknown n l)
-      → (b .kind ≡ baseline) × (n ≤ b .sequence .0)
-  unfolding baselineOf
-  numbered-above n (s ∷ l) b (inl e) = (ap (λ x. x .kind) e, omega (arith, ap (λ x. x .sequence .0) e))
-  numbered-above n (s ∷ l) b (inr m) = let h = numbered-above (suc n) l b m in (h .0, omega (arith, h .1))
-
-  numbered-rising : (n : ℕ) (l : List Stretch) → Rising sliceKey keyLess sameKey (numberedFrom unknown n l)
-  unfolding baselineOf keyLess lowerSequence
-  numbered-rising n [] = tt
-  numbered-rising n (s ∷ l) = (
-    λ y m. let h = numbered-above (suc n) l y m in
-        true-lex baseline n (y .kind) (y .sequence .0) (inr (sym (h .0), omega (arith, h .1))),
-    numbered-rising (suc n) l,
-  )
-
   pub derived-up : length (derivedRecords p) ≤ 256 → Up (derivedRecords p)
   unfolding derivedBaselines
   derived-up k =
       rising-views (strideOf p) (derivedRecords p)
-      (subst (Rising sliceKey keyLess sameKey) (sym (derived-views k)) (numbered-rising 1 (stretches slices)))
+      (subst (Rising sliceKey keyLess sameKey) (sym (derived-views k)) (numbered-rising unknown 1 (stretches slices)))
 
   -- ---- and pass the check
   born : Born slices
@@ -288,16 +254,6 @@ module _ (p : List ℕ) (bytes : Bytes p) (sound : checkTable Permanent p ≡ So
   derived-long = joined-length (recordSize (strideOf p)) (derivedRecords p) derived-sized
 
 -- ---- the answer
--- tests of other numbers pass where one behind them is the first to fail
-first-past : (n : ℕ) (xs ys : List Test) → any (λ x. eqb (x .number) n) xs ≡ false → FirstFails n (xs ++ ys)
-    → Passed xs × FirstFails n ys
-first-past n [] ys h f = (tt, f)
-first-past n (x ∷ xs) ys h (inl (y, e)) =
-    contrary (eq-eqb (x .number) n e) (or-neither (eqb (x .number) n) (any (λ x. eqb (x .number) n) xs) h .0)
-first-past n (x ∷ xs) ys h (inr (y, f)) =
-    let (a, b) = first-past n xs ys (or-neither (eqb (x .number) n) (any (λ x. eqb (x .number) n) xs) h .1) f in
-    ((y, a), b)
-
 apart : (n k : ℕ) → refusedDerivation k ≡ Derived n → ⊥
 apart n k q = true≢false cc
 

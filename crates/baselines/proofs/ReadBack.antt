@@ -32,8 +32,8 @@ use Rattle.state.proofs.Stages.{state-left, left-asked}
 use Rattle.baselines.specs.Laid.{recordFor}
 use Rattle.baselines.specs.Deriving.{derivedRecords, derivationOf, afterDeriving}
 use Rattle.baselines.specs.declared.derivation.Derivation.the-variants.{Derived}
-use Rattle.baselines.proofs.Changes.{slices-bounded}
-use Rattle.baselines.proofs.Pasted.{filled-by}
+use Rattle.baselines.proofs.Noted.{slices-bounded}
+use Rattle.baselines.proofs.Laid.{filled-by}
 use Rattle.baselines.proofs.Passes.{timely}
 use Rattle.baselines.proofs.DerivedTable.{Deriving, derived-told, told-derived, derived, derived-sound, derived-feature}
 use Rattle.baselines.proofs.DerivedTable.{derived-slices}

@@ -7,18 +7,18 @@ use mathlib.Core.List.{List, [], _∷_}
 use mathlib.Core.Logic.{_⊎_, inl, inr, ⊎-elim}
 use lib.ListN.{length, drop, getD}
 use lib.Seq.{drop-cons}
-use lib.Dec.{ltb, eqb}
 use Rattle.laws.specs.Keyed.{In, Rising}
-use Rattle.laws.specs.Orders.{lexLess}
 use Rattle.laws.proofs.Tests.{tests, pick-ind, by-test, or-either}
-use Rattle.laws.proofs.Lists.{getD-in}
-use Rattle.numbers.specs.Numbers.{noInstant, none, isNone, given, before, atMost, sameInstant}
+use Rattle.laws.proofs.Lists.{in-drop}
+use Rattle.laws.proofs.Put.{rising-pair}
+use Rattle.numbers.specs.Numbers.{noInstant, none, isNone, given, sameInstant}
 use Rattle.numbers.specs.declared.Instant.{Instant}
-use Rattle.numbers.proofs.Facts.{none-true, at-most-true, same-true}
+use Rattle.numbers.proofs.Facts.{none-true, at-most-true, same-true, at-most-of}
 use Rattle.numbers.proofs.Orders.{instant-of}
 use Rattle.events.specs.Order.{timeOf, placeOf, Pairs}
-use Rattle.events.proofs.Ordering.{Ordered}
+use Rattle.events.proofs.Ordering.{Ordered, pairs-drop}
 use Rattle.slice.specs.Record.{baseline, permdelta, keyLess, sameKey, Slice}
+use Rattle.slice.proofs.Keys.{key-order}
 use Rattle.table.specs.Header.{countOf}
 use Rattle.table.specs.declared.check.Sides.the-variants.{Permanent}
 use Rattle.table.proofs.Sound.{sound-table}
@@ -29,22 +29,16 @@ use Rattle.history.specs.Permanent.{permanentAt}
 use Rattle.history.specs.Sweep.{seen, tellsTwo, tells, tellsNext, isCounted, comesBehind, Falling, Passed}
 use Rattle.history.proofs.Changes.{Bounded, justAfter, later, begin-changing, life-changing, delta-changing, changing-given}
 use Rattle.history.proofs.Changes.{changes-from, changes-below, later-next, later-least, walk-below}
-use Rattle.history.proofs.Sweep.{Spanned, state-told, two-told, next-told}
+use Rattle.history.proofs.Sweep.{Spanned, state-told, two-told, next-told, behind-later, behind-level}
 use Rattle.state.specs.Asking.{slicesOf}
 use Rattle.state.proofs.Slices.{sound-rising, slices-length, slice-at}
 use Rattle.baselines.specs.Noting.{headOf}
-use Rattle.baselines.proofs.Changes.{slices-bounded}
-use Rattle.baselines.proofs.Noted.{sliceAt, count-most}
+use Rattle.baselines.proofs.Noted.{slices-bounded, sliceAt, count-most}
 use Rattle.baselines.proofs.Events.{Behind, IsBegin, Eventful, counted-given, base-span, in-slices}
 
 -- ---- events in order
 abbrev Later : ℕ → ℕ → Type 0
 Later = Ordered Behind
-
-pairs-drop : (n : ℕ) (l : List ℕ) → Pairs Later l → Pairs Later (drop n l)
-pairs-drop zero l h = h
-pairs-drop (suc n) [] h = tt
-pairs-drop (suc n) (e ∷ l) (low, h) = pairs-drop n l h
 
 head-least : (l : List ℕ) → Pairs Later l → (e : ℕ) → In e l → headOf l .0 ≤ timeOf e .0
 head-least (f ∷ l) (low, h) e (inl q) = let z = ap (λ x. timeOf x .0) q in omega tests
@@ -60,36 +54,6 @@ head-beyond (f ∷ l) t up all n e m = let b = all f (inl refl) in let k = head-
 head-in : (l : List ℕ) → (headOf l ≡ none) ⊎ ((e : ℕ) × In e l × (headOf l ≡ timeOf e))
 head-in [] = inl refl
 head-in (e ∷ l) = inr (e, inl refl, refl)
-
-in-drop : (n : ℕ) (l : List ℕ) (x : ℕ) → In x (drop n l) → In x l
-in-drop zero l x m = m
-in-drop (suc n) [] x m = m
-in-drop (suc n) (y ∷ l) x m = inr (in-drop n l x m)
-
--- ---- slices that rise, by their places
-rising-pair : (l : List Slice) → Rising sliceKey keyLess sameKey l → (i j : ℕ) (d : Slice) → i < j → j < length l
-    → keyLess (sliceKey (getD l i d)) (sliceKey (getD l j d)) ≡ true
-rising-pair [] up i j d h k = absurd (omega tests)
-rising-pair (x ∷ l) up i zero d h k = absurd (omega tests)
-rising-pair (x ∷ l) (low, up) zero (suc j) d h k = low (getD l j d) (getD-in l j d (omega tests))
-rising-pair (x ∷ l) (low, up) (suc i) (suc j) d h k = rising-pair l up i j d (omega tests) (omega tests)
-
--- one that begins later comes behind, and so does one of a higher key that begins with it
-behind-later : (d e : Slice) → e .period .begin .0 < d .period .begin .0 → comesBehind d e ≡ true
-unfolding comesBehind lexLess before
-behind-later d e h = let b : ltb (e .period .begin .0) (d .period .begin .0) ≡ true = omega tests in rw b
-
-behind-level : (d e : Slice) → e .period .begin .0 ≡ d .period .begin .0 → keyLess (sliceKey e) (sliceKey d) ≡ true
-    → comesBehind d e ≡ true
-unfolding comesBehind lexLess before sameInstant
-behind-level d e h k =
-    let b : ltb (e .period .begin .0) (d .period .begin .0) ≡ false = omega tests in
-    let s : eqb (e .period .begin .0) (d .period .begin .0) ≡ true = omega tests in
-    rw (b, s, k)
-
-by-number : (x t : Instant) → x .0 ≤ t .0 → atMost x t ≡ true
-unfolding atMost
-by-number x t h = omega tests
 
 -- ---- the sweep is at an event and at an instant, and has passed some slices, the latest first
 pub record Run (p E : List ℕ) (at : ℕ) (t : Instant) (xs : List Slice) : Type 0 where
@@ -126,7 +90,8 @@ module _ {p E : List ℕ} (evs : Eventful p E) where
       let z = sound-table Permanent p (evs .sound) .roomy in
       let a = slice-at p i d (omega tests) z in
       let b = slice-at p j d k z in
-      (λ n. keyLess (sliceKey (sym a n)) (sliceKey (sym b n))) ∙ rising-pair slices up i j d h (omega (tests, slices-length p))
+      (λ n. keyLess (sliceKey (sym a n)) (sliceKey (sym b n)))
+      ∙ rising-pair sliceKey keyLess sameKey key-order slices up i j d h (omega (tests, slices-length p))
 
   -- the time of an event is a change instant
   event-changing : (e : ℕ) → In e E → In (timeOf e) (changeInstants slices)
@@ -191,7 +156,7 @@ module _ {p E : List ℕ} {at : ℕ} {t : Instant} {xs : List Slice} (run : Run 
   left = drop at E
 
   least : (e : ℕ) → In e left → headOf left .0 ≤ timeOf e .0
-  least = head-least left (pairs-drop at E (evs .order))
+  least = head-least left (pairs-drop Later at E (evs .order))
 
   -- to a later instant, which no event that is ahead comes before
   pub run-on : (u : Instant) → t .0 ≤ u .0 → u .0 ≤ headOf left .0 → Run p E at u xs
@@ -238,15 +203,15 @@ module _ {p E : List ℕ} {at : ℕ} {t : Instant} {xs : List Slice} (run : Run 
         let j = placeOf f in
         let b = ap (λ u. u .0) (of-record evs event (in-drop at E event here) h .1) in
         let c = ap (λ u. u .0) (of-record evs f (in-drop (at + 1) E f m) (omega (tests, few evs)) .1) in
-        let (low, _) = subst (Pairs Later) rest-is (pairs-drop at E (evs .order)) in
+        let (low, _) = subst (Pairs Later) rest-is (pairs-drop Later at E (evs .order)) in
         ⊎-elim (λ l. behind-later (sliceAt p j) (sliceAt p i) (omega tests))
         (λ (l, o). ⊎-elim (λ q. behind-level (sliceAt p j) (sliceAt p i) (omega tests) (by-place evs i j q k))
         (λ q. absurd (omega (tests, few evs))) o)
         (low f m)
 
     -- the event is passed, with some slices: its own, if it is that of a record
-    passing : (ys : List Slice) → ((x : Slice) → In x xs → In x ys) → (placeOf event < countOf p → In (sliceAt p (placeOf event)) ys)
-        → (e : ℕ) → In e E
+    passing : (ys : List Slice) → ((x : Slice) → In x xs → In x ys)
+        → (placeOf event < countOf p → In (sliceAt p (placeOf event)) ys) → (e : ℕ) → In e E
         → In e (drop (at + 1) E) ⊎ ((timeOf e .0 ≤ t .0) × (placeOf e < countOf p → In (sliceAt p (placeOf e)) ys))
     passing ys more own e m =
         ⊎-elim (λ n. ⊎-elim (λ q. inr (rw q (omega (tests, time-is), own))) inl (subst (In e) rest-is n))
@@ -282,12 +247,12 @@ module _ {p E : List ℕ} {at : ℕ} {t : Instant} {xs : List Slice} (run : Run 
 
     -- what is ahead is later
     beyond : (e : ℕ) → In e left → t .0 < timeOf e .0
-    beyond = head-beyond left t (pairs-drop at E (evs .order)) (run .ahead) over
+    beyond = head-beyond left t (pairs-drop Later at E (evs .order)) (run .ahead) over
 
     all-passed : Passed (slicesOf p) t xs
     all-passed = record {
       falling = run .falling;
-      within = λ x m. let (i, c, b) = run .within x m in (i, c, by-number (x .period .begin) t b);
+      within = λ x m. let (i, c, b) = run .within x m in (i, c, at-most-of (x .period .begin) t b);
       covers = λ x m c b. let (e, i, l, q, z) = evs .begin x m c in
           ⊎-elim (λ n. absurd (let k = rw z at (beyond e n) in omega (tests, at-most-true (x .period .begin) t b)))
           (λ (_, h). subst (λ y. In y xs) q (h l)) (run .passed e i);
@@ -315,7 +280,8 @@ module _ {p E : List ℕ} {at : ℕ} {t : Instant} {xs : List Slice} (run : Run 
 
         -- an event that is later than t is ahead
         later-event : (e : ℕ) (u : Instant) → In e E → timeOf e ≡ u → t .0 < u .0 → next .0 ≤ u .0
-        later-event e u m q l = rw (← q) (⊎-elim (least e) (λ (b, _). absurd (let z = ap (λ i. i .0) q in omega tests)) (run .passed e m))
+        later-event e u m q l =
+            rw (← q) (⊎-elim (least e) (λ (b, _). absurd (let z = ap (λ i. i .0) q in omega tests)) (run .passed e m))
 
         begins : (x : Slice) → In x (slicesOf p) → isCounted x ≡ true → t .0 < x .period .begin .0 → next .0 ≤ x .period .begin .0
         begins x m c = let (e, i, _, _, z) = evs .begin x m c in later-event e (x .period .begin) i z

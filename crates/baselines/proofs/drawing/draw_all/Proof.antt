@@ -17,8 +17,8 @@ zeros size stride e f = λ i. take (e i + f i - 0) (replicate 320 0)
 put-unknown-requires : tie.Need-put-unknown-requires
 put-unknown-requires c κs =
     let s = c .before .before .before in
-    let n = s .before .stride-of in
-    (zeros _ _ (s .record-size .ensures) (n .ensures) ∙ ap (λ (k : ℕ). replicate (lineSize k) 0) (sym (n .ensures)), omega (arith, n .ensures))
+    let e = s .before .stride-of .ensures in
+    (zeros _ _ (s .record-size .ensures) e ∙ ap (λ (k : ℕ). replicate (lineSize k) 0) (sym e), omega (arith, e))
 
 draw-events-requires : tie.Need-draw-events-requires
 draw-events-requires c κs =

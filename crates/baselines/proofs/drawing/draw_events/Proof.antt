@@ -91,8 +91,9 @@ loop-again c =
     let l = at-turn (t .before) in
     let place = c .before .place-of .ensures in
     ⊎-elim
-    (λ (i, r, a, a′, k, b, n, m, o, eb, el, es). rw (eb, el) (drawing-record (l .loop .inv) (turn (t .before)) (t .if2 .taken) place
-    (read-by _ _ (size l) (r .ensures .0)) (i .taken) (stride l) (es ∙ k .ensures .0) (k .ensures .1) (k .kept .0) (k .kept .1 .0)))
+    (λ (i, r, a, a′, k, b, n, m, o, eb, el, es). rw (eb, el) (drawing-record (l .loop .inv) (turn (t .before)) (t .if2 .taken)
+    place (read-by _ _ (size l) (r .ensures .0)) (i .taken) (stride l) (es ∙ k .ensures .0) (k .ensures .1) (k .kept .0)
+    (k .kept .1 .0)))
     (λ (i, eb, el, es). rw (eb, el, es) (drawing-gone (l .loop .inv) (turn (t .before)) (t .if2 .taken)
     (λ h. omega (arith, i .left, place))))
     (c .if3 .came)

@@ -13,9 +13,9 @@ use Rattle.slice.specs.Record.{recordSize, viewOf}
 use Rattle.history.specs.State.{State}
 use Rattle.state.proofs.Slices.{propertyAt, view-eight, view-sized}
 use Rattle.baselines.specs.Carried.{Carries, lineSize, recordOf, mentionsOver}
-use Rattle.baselines.proofs.Carried.{take-behind, take-property, partly, partly-none, partly-skip, partly-put, partly-all}
-use Rattle.baselines.proofs.Carried.{view-skips, view-says}
+use Rattle.baselines.proofs.Carried.{partly, partly-none, partly-skip, partly-put, partly-all, view-skips, view-says}
 use borrow.Author.Needs.{needs}
+use Rattle.octets.proofs.Writing.{take-pasted, take-behind}
 use Rattle.baselines.proofs.line.put_mentions.Statement.{statement}
 use Rattle.baselines.proofs.line.put_mentions.Tie as tie
 
@@ -96,7 +96,8 @@ module _ (w : tie.After-copy Inv-loop μ-loop) where
       ∙ sym (partly-skip stride d s _ h eight spoken n
       (view-skips stride delta n few size (sym (j .before .byte .ensures) ∙ i .taken))))
       (λ (i, e). goes at e
-      ∙ take-property stride (l .loop .line) bytes at (omega (arith, bytes-long, within k, size)) (omega (arith, long k))
+      ∙ take-pasted (recordSize stride) (l .loop .line) bytes at (omega (arith, bytes-long, within k, size))
+      (omega (arith, long k))
       ∙ ap (λ (r : List ℕ). pasted r at bytes) was
       ∙ partly-put stride d s _ h eight spoken n bytes
       (view-says stride delta n few size (λ z. i .left (j .before .byte .ensures ∙ z))) few bytes-long)

@@ -10,8 +10,9 @@ use Rattle.laws.proofs.Pieces.{piece-within}
 use Rattle.octets.specs.Writing.{pasted}
 use Rattle.slice.specs.Record.{recordSize}
 use Rattle.baselines.specs.Carried.{Carries, lineSize, recordOf, unknownState}
-use Rattle.baselines.proofs.Carried.{take-property, unknownTo, unknown-none, unknown-more, unknown-carried}
+use Rattle.baselines.proofs.Carried.{unknownTo, unknown-none, unknown-more, unknown-carried}
 use borrow.Author.Needs.{needs}
+use Rattle.octets.proofs.Writing.{take-pasted}
 use Rattle.baselines.proofs.line.put_unknown.Statement.{statement}
 use Rattle.baselines.proofs.line.put_unknown.Tie as tie
 
@@ -39,7 +40,7 @@ loop-holds c =
       (
         refl,
         ap (recordOf n) (p .put .ensures)
-            ∙ take-property n (s .args .line .now) (replicate 8 255) 16 (omega arith) (omega (arith, long p))
+            ∙ take-pasted (recordSize n) (s .args .line .now) (replicate 8 255) 16 (omega arith) (omega (arith, long p))
             ∙ ap (λ (l : List ℕ). pasted l 16 (replicate 8 255)) zeros
             ∙ unknown-none n (s .pre .1),
       ),
@@ -73,8 +74,8 @@ loop-again c =
       (
         p .put2 .kept .0 ∙ kept,
         ap (recordOf (stride k)) (p .put2 .ensures)
-            ∙ take-property (stride k) (l k .loop .line) (1 ∷ 4 ∷ []) (32 + n * stride k) (omega (arith, within k, wide))
-            (omega (arith, line-long k))
+            ∙ take-pasted (recordSize (stride k)) (l k .loop .line) (1 ∷ 4 ∷ []) (32 + n * stride k)
+            (omega (arith, within k, wide)) (omega (arith, line-long k))
             ∙ ap (λ (d : List ℕ). pasted d (32 + n * stride k) (1 ∷ 4 ∷ [])) is
             ∙ unknown-more (stride k) wide n (k .loop-test .taken),
       ),

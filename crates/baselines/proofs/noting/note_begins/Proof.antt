@@ -26,7 +26,8 @@ loop-holds c =
     let s = c .before .before .before .before in
     record { sound = s .pre .0; low = omega arith; few = omega arith; within = omega arith; sized = s .pre .1; all = refl }
 
-more : (k : tie.In-loop Inv-loop μ-loop) → k .before .loop .i < countOf (k .before .before .before .before .before .before .args .permanent .now)
+more : (k : tie.In-loop Inv-loop μ-loop)
+    → k .before .loop .i < countOf (k .before .before .before .before .before .before .args .permanent .now)
 more k = omega (arith, k .loop-test .taken, k .before .before .count-of .ensures)
 
 -- there is room for one more

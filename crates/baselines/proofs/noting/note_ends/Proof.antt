@@ -15,7 +15,8 @@ use Rattle.table.specs.Header.{countOf, strideOf, recordAt}
 use Rattle.state.specs.Asking.{slicesOf}
 use Rattle.state.proofs.Walks.{read-by}
 use Rattle.baselines.specs.Noting.{nowhere, goneOf, lifeEnds}
-use Rattle.baselines.proofs.Noted.{Noting, sliceAt, late-done, noting-room, noting-one, noting-none, noting-done, noting-end}
+use Rattle.baselines.proofs.Noted.{Noting, sliceAt, late-done, noting-room, noting-one, noting-none, noting-done}
+use Rattle.baselines.proofs.Noted.{noting-end}
 use Rattle.baselines.proofs.noting.note_ends.Statement.{statement}
 use Rattle.baselines.proofs.noting.note_ends.Tie as tie
 
@@ -66,7 +67,8 @@ loop-again c =
     let v = c .before .before .before in
     let b = v .before .before in
     let same : eqb (sliceAt (p b) (l b .loop .i) .kind) baseline ≡ true = eq-eqb _ _ (sym (kind b) ∙ v .before .if1 .left) in
-    let t : _ ≡ goneOf (sliceAt (p b) (l b .loop .i)) = ap (λ x. x .end) (v .life-of .ensures ∙ ap lifeOf (read b)) ∙ sym (rw same) in
+    let t : _ ≡ goneOf (sliceAt (p b) (l b .loop .i)) =
+    ap (λ x. x .end) (v .life-of .ensures ∙ ap lifeOf (read b)) ∙ sym (rw same) in
     let none = sym (c .before .is-none .ensures) in
     ⊎-elim
     (λ w. rw (w .2, w .3) (noting-one (l b .loop .inv) (more b) t (none ∙ not-true _ (w .0 .taken)) (w .1 .ensures)))
