@@ -1,61 +1,57 @@
 -- The record at hand: what it says of a state, and what writing into it makes of that. Assumes nothing.
 use Prim.Native.Nat.{ℕ, zero, suc, _+_, _*_, _-_, _≤_, _<_}
 use mathlib.Core.Path.{_≡_, refl, sym, ap, _∙_, subst}
-use mathlib.Core.List.{List, [], _∷_, _++_, map, append-assoc}
+use mathlib.Core.List.{List, [], _∷_, _++_, map, append-assoc, append-nil}
 use mathlib.Core.Bool.{Bool, true, false, cond, not}
 use mathlib.Core.Logic.{inl, inr, ⊎-elim}
 use native.Mathlib.Nat.{zero-mul, suc-mul}
 use native.Mathlib.Omega.{arith}
-use lib.ListN.{length, take, drop, getD, replicate, length-append, length-replicate, replicate-append-replicate, take-append-drop}
-use lib.Seq.{length-take-le, take-at, take-append-le, drop-append-le}
+use lib.ListN.{length, take, drop, getD, replicate, length-append, length-map, List·getD-map, length-replicate, getD-replicate}
+use lib.ListN.{replicate-append-replicate, length-drop, take-append-drop}
+use lib.Seq.{length-take-le}
 use lib.Dec.{eqb, ltb}
-use borrow.Author.Tests.{eq-eqb, ne-eqb}
-use Rattle.laws.specs.Lists.{joined}
+use borrow.Author.Tests.{eq-eqb, ne-eqb, not-true}
+use Rattle.laws.specs.Lists.{joined, all}
 use Rattle.laws.specs.Keyed.{In}
-use Rattle.laws.proofs.Tests.{tests}
-use Rattle.octets.specs.Bytes.{byteOf}
+use Rattle.laws.proofs.Tests.{tests, contrary, and-both}
+use Rattle.laws.proofs.Lists.{getD-in, map-in, in-map, all-in, rest-whole}
+use Rattle.laws.proofs.Pieces.{Sized, pieces-sized, joined-pieces}
+use Rattle.octets.specs.Bytes.{byteOf, beOf, filled, Bytes}
 use Rattle.octets.specs.Writing.{bytesOf, pasted}
-use Rattle.octets.proofs.Writing.{pasted-whole, pasted-length}
-use Rattle.state.proofs.Pasting.{pasted-all}
-use Rattle.property.specs.Eight.{mentioned}
+use Rattle.octets.proofs.Writing.{over-middle, take-pasted, put-piece, keep-piece, all-pieces}
+use Rattle.octets.proofs.Stored.{number-bytes, zero-bytes, cut}
 use Rattle.numbers.specs.Numbers.{noInstant, isNone}
 use Rattle.numbers.specs.declared.Instant.{Instant}
-use Rattle.slice.specs.Record.{recordSize, Property, unmentioned, says, Slice, viewOf}
+use Rattle.property.specs.Eight.{mentioned, propertiesOf}
+use Rattle.slice.specs.Record.{recordSize, Property, unmentioned, says, Slice, viewOf, baseline, partsOf, isMentioned, propertyOf}
 use Rattle.slice.proofs.View.{property-mentioned}
-use Rattle.history.specs.State.{State, newer, over, newTime}
+use Rattle.slice.specs.Rules.{contentOf, contentRight}
+use Rattle.slice.specs.declared.check.Checked.the-variants.{Sound}
+use Rattle.slice.proofs.Times.{instant-most}
+use Rattle.table.specs.Header.{countOf, strideOf, recordAt}
+use Rattle.table.specs.Rules.{checkTable}
+use Rattle.table.specs.declared.check.Sides.the-variants.{Permanent}
+use Rattle.table.proofs.Sound.{sound-table}
+use Rattle.table.proofs.Records.{record-in}
+use Rattle.table.proofs.Stays.{sound-in}
+use Rattle.history.specs.State.{State, newer, over, newTime, started}
 use Rattle.history.specs.Derived.{baselineOf}
 use Rattle.history.specs.Source.{mentions}
 use Rattle.history.specs.Parts.{tells}
-use Rattle.state.proofs.Slices.{propertyAt, view-property}
+use Rattle.history.proofs.Parts.{over-at, over-length}
+use Rattle.history.specs.Counted.{counts}
+use Rattle.state.proofs.Pasting.{pasted-all}
+use Rattle.state.proofs.Slices.{propertyAt, view-property, view-eight}
 use Rattle.state.proofs.Views.{tells-property}
 use Rattle.state.specs.Written.{nilUnknown, propertyBytes}
+use Rattle.state.proofs.RecordProperties.{mention-bytes}
 use Rattle.baselines.specs.Laid.{partFor, recordFor}
 use Rattle.baselines.specs.Steps.{drawnRecord}
-use Rattle.baselines.specs.Carried.{tailOf, Carries, unknownState}
-use Rattle.baselines.proofs.Pasted.{over-middle, filled-by}
+use Rattle.baselines.specs.Carried.{tailOf, Carries, mentionsOver, unknownState}
+use Rattle.baselines.proofs.Laid.{filled-by}
+use Rattle.baselines.proofs.Noted.{bytes-records}
 
 -- ---- the record of a line, in front of what goes nowhere
-pasted-front : (a x c : List ℕ) (at : ℕ) → at + length x ≤ length a → pasted (a ++ c) at x ≡ pasted a at x ++ c
-pasted-front a x c at h =
-    pasted-whole (a ++ c) x at (omega (arith, length-append a c))
-    ∙ (λ i. take-append-le at a c (omega arith) i ++ (x ++ drop-append-le (at + length x) a c h i))
-    ∙ ap (λ (l : List ℕ). take at a ++ l) (sym (append-assoc x (drop (at + length x) a) c))
-    ∙ sym (append-assoc (take at a) (x ++ drop (at + length x) a) c)
-    ∙ ap (λ (l : List ℕ). l ++ c) (sym (pasted-whole a x at h))
-
-take-pasted : (n : ℕ) (d x : List ℕ) (at : ℕ) → at + length x ≤ n → n ≤ length d → take n (pasted d at x) ≡ pasted (take n d) at x
-take-pasted n d x at h k =
-    let l : length (take n d) ≡ n = length-take-le n d k in
-    let whole : take n d ++ drop n d ≡ d = take-append-drop n d in
-    ap (λ (c : List ℕ). take n (pasted c at x)) (sym whole)
-    ∙ ap (take n) (pasted-front (take n d) x (drop n d) at (omega arith))
-    ∙ take-at (pasted (take n d) at x) (drop n d) n (pasted-length (take n d) x at ∙ l)
-
--- what is written behind it leaves it as it was
-pub take-behind : (n : ℕ) (d x : List ℕ) → n + length x ≤ length d → take n (pasted d n x) ≡ take n d
-take-behind n d x h =
-    ap (take n) (pasted-whole d x n h) ∙ take-at (take n d) (x ++ drop (n + length x) d) n (length-take-le n d (omega arith))
-
 -- a record that is written over it
 pub record-first : (stride : ℕ) (d r : List ℕ) → length r ≡ recordSize stride → recordSize stride ≤ length d
     → take (recordSize stride) (pasted d 0 r) ≡ r
@@ -71,42 +67,7 @@ pub take-time : (stride : ℕ) (b : Bool) (d r x : List ℕ) (at : ℕ) → at +
 take-time stride true d r x at h k e = ap (take (recordSize stride)) e
 take-time stride false d r x at h k e = ap (take (recordSize stride)) e ∙ take-pasted (recordSize stride) r x at h k
 
--- a property that is written into it
-pub take-property : (stride : ℕ) (d x : List ℕ) (at : ℕ) → at + length x ≤ recordSize stride → recordSize stride ≤ length d
-    → take (recordSize stride) (pasted d at x) ≡ pasted (take (recordSize stride) d) at x
-take-property stride d x at = take-pasted (recordSize stride) d x at
-
--- ---- properties, the first n of them replaced where they are mentioned
-abbrev overTo : ℕ → List Property → List Property → List Property
-overTo zero news olds = olds
-overTo (suc n) [] olds = olds
-overTo (suc n) (v ∷ news) [] = []
-overTo (suc n) (v ∷ news) (o ∷ olds) = newer v o ∷ overTo n news olds
-
-over-all : (n : ℕ) (news olds : List Property) → length news ≡ n → length olds ≡ n → overTo n news olds ≡ over news olds
-over-all zero [] olds e f = refl
-over-all zero (v ∷ news) olds e f = absurd (omega arith)
-over-all (suc n) [] olds e f = absurd (omega arith)
-over-all (suc n) (v ∷ news) [] e f = absurd (omega arith)
-over-all (suc n) (v ∷ news) (o ∷ olds) e f =
-    ap (λ (l : List Property). newer v o ∷ l) (over-all n news olds (omega arith) (omega arith))
-
-over-length : (n : ℕ) (news olds : List Property) → length (overTo n news olds) ≡ length olds
-over-length zero news olds = refl
-over-length (suc n) [] olds = refl
-over-length (suc n) (v ∷ news) [] = refl
-over-length (suc n) (v ∷ news) (o ∷ olds) = ap suc (over-length n news olds)
-
--- one that is not mentioned
-over-skip : (n : ℕ) (news olds : List Property) → getD news n unmentioned ≡ unmentioned
-    → overTo (suc n) news olds ≡ overTo n news olds
-over-skip zero [] olds e = refl
-over-skip zero (v ∷ news) [] e = refl
-over-skip zero (v ∷ news) (o ∷ olds) e = ap (λ (x : Property). newer x o ∷ olds) e
-over-skip (suc n) [] olds e = refl
-over-skip (suc n) (v ∷ news) [] e = refl
-over-skip (suc n) (v ∷ news) (o ∷ olds) e = ap (λ (l : List Property). newer v o ∷ l) (over-skip n news olds e)
-
+-- ---- properties, replaced where they are mentioned
 module _ (stride : ℕ) where
   abbrev Wide : List Property → Type 0
   Wide vs = (v : Property) → In v vs → length (propertyBytes stride v) ≡ stride
@@ -114,40 +75,23 @@ module _ (stride : ℕ) where
   abbrev Spoken : List Property → Type 0
   Spoken vs = (b : List ℕ) → In (says b) vs → length b ≡ stride
 
-  abbrev laid : List Property → List ℕ
-  laid vs = joined (map (propertyBytes stride) vs)
+  abbrev parts : List Property → List (List ℕ)
+  parts = map (propertyBytes stride)
+
+  parts-sized : (vs : List Property) → Wide vs → Sized stride (parts vs)
+  parts-sized vs h l m = let (v, n, e) = map-in (propertyBytes stride) vs l m in rw e (h v n)
 
   newer-wide : (v o : Property) → ((b : List ℕ) → v ≡ says b → length b ≡ stride) → length (propertyBytes stride o) ≡ stride
       → length (propertyBytes stride (newer v o)) ≡ stride
   newer-wide unmentioned o h k = k
   newer-wide (says b) o h k = h b refl
 
-  over-wide : (n : ℕ) (news olds : List Property) → Spoken news → Wide olds → Wide (overTo n news olds)
-  over-wide zero news olds h k = k
-  over-wide (suc n) [] olds h k = k
-  over-wide (suc n) (v ∷ news) [] h k = k
-  over-wide (suc n) (v ∷ news) (o ∷ olds) h k =
+  over-wide : (news olds : List Property) → length news ≡ length olds → Spoken news → Wide olds → Wide (over news olds)
+  over-wide [] olds e h k = k
+  over-wide (v ∷ news) [] e h k = absurd (omega arith)
+  over-wide (v ∷ news) (o ∷ olds) e h k =
       λ x. ⊎-elim (λ e. rw e (newer-wide v o (λ b q. h b (inl (sym q))) (k o (inl refl))))
-      (over-wide n news olds (λ b i. h b (inr i)) (λ y i. k y (inr i)) x)
-
-  -- one that is mentioned, written over the old one
-  over-put : (n : ℕ) (head : List ℕ) (news olds : List Property) (b : List ℕ) → getD news n unmentioned ≡ says b → n < length olds
-      → Spoken news → Wide olds
-      → pasted (head ++ laid (overTo n news olds)) (length head + n * stride) b ≡ head ++ laid (overTo (suc n) news olds)
-  over-put n head news [] b e l h k = absurd (omega arith)
-  over-put zero head [] (o ∷ olds) b e l h k = cc
-  over-put (suc n) head [] (o ∷ olds) b e l h k = cc
-  over-put zero head (v ∷ news) (o ∷ olds) b e l h k =
-      let at : length head + 0 * stride ≡ length head = omega arith in
-      rw (at, e) (over-middle head (propertyBytes stride o) (laid olds) b (k o (inl refl) ∙ sym (h b (inl (sym e)))))
-  over-put (suc n) head (v ∷ news) (o ∷ olds) b e l h k =
-      let x = propertyBytes stride (newer v o) in
-      let w : length x ≡ stride = newer-wide v o (λ b q. h b (inl (sym q))) (k o (inl refl)) in
-      let at : length head + suc n * stride ≡ length (head ++ x) + n * stride = omega (arith, length-append head x) in
-      ap (λ (d : List ℕ). pasted d (length head + suc n * stride) b) (sym (append-assoc head x (laid (overTo n news olds))))
-      ∙ ap (λ (m : ℕ). pasted ((head ++ x) ++ laid (overTo n news olds)) m b) at
-      ∙ over-put n (head ++ x) news olds b e (omega arith) (λ c i. h c (inr i)) (λ y i. k y (inr i))
-      ∙ append-assoc head x (laid (overTo (suc n) news olds))
+      (over-wide news olds (omega arith) (λ b i. h b (inr i)) (λ y i. k y (inr i)) x)
 
   -- ---- a record that says a state
   module _ (s : State) (r : List ℕ) (c : Carries stride s r) where
@@ -212,38 +156,69 @@ module _ (stride : ℕ) where
             (c .born) low e
 
   -- ---- a PERMDELTA applied, property by property
-  abbrev pub partly : ℕ → State → Slice → State
-  partly n s d = record { life = s .life; properties = overTo n (d .properties) (s .properties) }
+  module _ (d : Slice) (s : State) (r : List ℕ) (c : Carries stride s r) where
+    abbrev mid : List ℕ
+    mid = bytesOf 4 (s .life .begin .0) ++ (bytesOf 4 (s .life .end .0) ++ replicate 8 0)
 
-  module _ (n : ℕ) (s : State) (d : Slice) (r : List ℕ) (c : Carries stride (partly n s d) r) where
-    pub carry-skip : getD (d .properties) n unmentioned ≡ unmentioned → Carries stride (partly (suc n) s d) r
-    carry-skip e = rw (over-skip n (d .properties) (s .properties) e) c
+    abbrev news : List Property
+    news = over (d .properties) (s .properties)
 
-    pub carry-put : (b : List ℕ) → getD (d .properties) n unmentioned ≡ says b → n < 8 → Spoken (d .properties)
-        → Wide (s .properties) → length (s .properties) ≡ 8
-        → (r′ : List ℕ) → r′ ≡ pasted r (32 + n * stride) b → Carries stride (partly (suc n) s d) r′
-    carry-put b e l h w k r′ q =
-        let mid : List ℕ = bytesOf 4 (s .life .begin .0) ++ (bytesOf 4 (s .life .end .0) ++ replicate 8 0) in
-        let head = c .front ++ mid in
-        let m : 32 + n * stride ≡ length head + n * stride = omega (arith, length-append (c .front) mid, c .long) in
-        let f : (vs : List Property) → head ++ laid vs ≡ c .front ++ (mid ++ laid vs) =
-        λ vs. append-assoc (c .front) mid (laid vs) in
-        record {
-          front = c .front;
-          long = c .long;
-          is = q ∙ (λ i. pasted ((c .is ∙ sym (f (overTo n (d .properties) (s .properties)))) i) (m i) b)
-              ∙ over-put n head (d .properties) (s .properties) b e (omega arith) h w
-              ∙ f (overTo (suc n) (d .properties) (s .properties));
-          eight = over-length (suc n) (d .properties) (s .properties) ∙ k;
-          sized = over-wide (suc n) (d .properties) (s .properties) h w;
-          born = c .born;
-          gone = c .gone;
-        }
+    -- the record with the first n properties replaced
+    abbrev pub partly : ℕ → List ℕ
+    partly n = (c .front ++ mid) ++ joined (take n (parts news) ++ drop n (parts (s .properties)))
 
-  pub partly-all : (s : State) (d : Slice) → length (d .properties) ≡ 8 → length (s .properties) ≡ 8
-      → partly 8 s d ≡ record { life = s .life; properties = over (d .properties) (s .properties) }
-  partly-all s d e f =
-      ap (λ (l : List Property). record { life = s .life; properties = l }) (over-all 8 (d .properties) (s .properties) e f)
+    pub partly-none : r ≡ partly 0
+    partly-none = c .is ∙ sym (append-assoc (c .front) mid (joined (parts (s .properties))))
+
+    was : (n : ℕ) → getD (parts (s .properties)) n (nilUnknown stride) ≡ propertyBytes stride (getD (s .properties) n unmentioned)
+    was n = List·getD-map (propertyBytes stride) (s .properties) n unmentioned
+
+    is-at : (n : ℕ) (v : Property) → getD (d .properties) n unmentioned ≡ v
+        → getD (parts news) n (nilUnknown stride) ≡ propertyBytes stride (newer v (getD (s .properties) n unmentioned))
+    is-at n v e =
+        List·getD-map (propertyBytes stride) news n unmentioned
+        ∙ ap (propertyBytes stride)
+        (over-at (d .properties) (s .properties) n ∙ ap (λ (w : Property). newer w (getD (s .properties) n unmentioned)) e)
+
+    module _ (eight : length (d .properties) ≡ 8) (spoken : Spoken (d .properties)) where
+      long : length news ≡ 8
+      long = over-length (d .properties) (s .properties) (eight ∙ sym (c .eight)) ∙ c .eight
+
+      wide : Wide news
+      wide = over-wide (d .properties) (s .properties) (eight ∙ sym (c .eight)) spoken (c .sized)
+
+      same : length (parts news) ≡ length (parts (s .properties))
+      same = length-map news (propertyBytes stride) ∙ long ∙ sym (length-map (s .properties) (propertyBytes stride) ∙ c .eight)
+
+      pub partly-skip : (n : ℕ) → getD (d .properties) n unmentioned ≡ unmentioned → partly (suc n) ≡ partly n
+      partly-skip n e =
+          ap (λ (l : List (List ℕ)). (c .front ++ mid) ++ joined l)
+          (keep-piece stride (nilUnknown stride) n (parts news) (parts (s .properties)) same (is-at n unmentioned e ∙ sym (was n)))
+
+      pub partly-put : (n : ℕ) (b : List ℕ) → getD (d .properties) n unmentioned ≡ says b → n < 8 → length b ≡ stride
+          → pasted (partly n) (32 + n * stride) b ≡ partly (suc n)
+      partly-put n b e l k =
+          let old = propertyBytes stride (getD (s .properties) n unmentioned) in
+          let h : length old ≡ stride = c .sized _ (getD-in (s .properties) n unmentioned (omega (arith, c .eight))) in
+          let m : 32 + n * stride ≡ length (c .front ++ mid) + n * stride = omega (arith, length-append (c .front) mid, c .long) in
+          ap (λ (k : ℕ). pasted (partly n) k b) m
+          ∙ put-piece stride (nilUnknown stride) n (c .front ++ mid) (parts news) (parts (s .properties)) b old []
+          (omega (arith, length-map news (propertyBytes stride), long)) same (parts-sized news wide)
+          (was n ∙ sym (append-nil old)) (is-at n (says b) e ∙ sym (append-nil b)) (h ∙ sym k)
+
+      pub partly-all : Carries stride (mentionsOver d s) (partly 8)
+      partly-all = record {
+        front = c .front;
+        long = c .long;
+        is = ap (λ (l : List (List ℕ)). (c .front ++ mid) ++ joined l)
+            (all-pieces 8 (parts news) (parts (s .properties)) (length-map news (propertyBytes stride) ∙ long)
+            (length-map (s .properties) (propertyBytes stride) ∙ c .eight))
+            ∙ append-assoc (c .front) mid (joined (parts news));
+        eight = long;
+        sized = wide;
+        born = c .born;
+        gone = c .gone;
+      }
 
 -- ---- a property of a record's slice, by its first byte
 module _ (stride : ℕ) (r : List ℕ) (n : ℕ) (few : n < 8) (size : length r ≡ recordSize stride) where
@@ -266,64 +241,51 @@ module _ (stride : ℕ) (r : List ℕ) (n : ℕ) (few : n < 8) (size : length r 
 
 -- ---- the record of the unknown, property by property
 module _ (stride : ℕ) where
-  -- so many that are nil, unknown, and then so many of zeros
-  abbrev parts : ℕ → ℕ → List ℕ
-  parts zero zero = []
-  parts zero (suc m) = 0 ∷ 0 ∷ replicate (stride - 2) 0 ++ parts zero m
-  parts (suc n) m = nilUnknown stride ++ parts n m
+  -- two bytes of a property, and those behind them
+  abbrev after : ℕ → ℕ → List ℕ
+  after a b = a ∷ b ∷ replicate (stride - 2) 0
 
   abbrev ahead : List ℕ
   ahead = replicate 16 0 ++ (replicate 8 255 ++ replicate 8 0)
 
+  -- so many that are nil, unknown, and then zeros
   unfoldable pub unknownTo : ℕ → List ℕ
-  unknownTo n = ahead ++ parts n (8 - n)
+  unknownTo n = ahead ++ joined (take n (replicate 8 (after 1 4)) ++ drop n (replicate 8 (after 0 0)))
+
+  unknown-in : {A : Type 0} (n : ℕ) (v a : A) → In v (replicate n a) → v ≡ a
+  unknown-in (suc n) v a (inl e) = e
+  unknown-in (suc n) v a (inr m) = unknown-in n v a m
 
   module _ (wide : 2 ≤ stride) where
-    zeros : (m : ℕ) → replicate (m * stride) 0 ≡ parts 0 m
+    zeros : (m : ℕ) → replicate (m * stride) 0 ≡ joined (replicate m (after 0 0))
     zeros zero = ap (λ (k : ℕ). replicate k 0) (zero-mul stride)
     zeros (suc m) =
         let e : suc m * stride ≡ suc (suc (stride - 2)) + m * stride = omega (arith, suc-mul m stride) in
         ap (λ (k : ℕ). replicate k 0) e
         ∙ sym (replicate-append-replicate (suc (suc (stride - 2))) (m * stride) 0)
-        ∙ ap (λ (l : List ℕ). 0 ∷ 0 ∷ replicate (stride - 2) 0 ++ l) (zeros m)
+        ∙ ap (λ (l : List ℕ). after 0 0 ++ l) (zeros m)
+
+    after-long : (v : List ℕ) → v ≡ after 1 4 → length v ≡ stride
+    after-long v e = ap length e ∙ omega (arith, length-replicate {A = ℕ} (stride - 2) 0)
 
     pub unknown-none : pasted (replicate (recordSize stride) 0) 16 (replicate 8 255) ≡ unknownTo 0
     unfolding unknownTo
     unknown-none =
         ap (λ (l : List ℕ). pasted l 16 (replicate 8 255))
         (sym (replicate-append-replicate 32 (8 * stride) 0) ∙ ap (λ (l : List ℕ). replicate 32 0 ++ l) (zeros 8))
-        ∙ over-middle (replicate 16 0) (replicate 8 0) (replicate 8 0 ++ parts 0 8) (replicate 8 255) refl
+        ∙ over-middle (replicate 16 0) (replicate 8 0) (replicate 8 0 ++ joined (replicate 8 (after 0 0))) (replicate 8 255) refl
 
     -- one more
-    one-more : (n m : ℕ) (head : List ℕ)
-        → pasted (head ++ parts n (suc m)) (length head + n * stride) (1 ∷ 4 ∷ []) ≡ head ++ parts (suc n) m
-    one-more zero m head =
-        let at : length head + 0 * stride ≡ length head = omega arith in
-        rw at (over-middle head (0 ∷ 0 ∷ []) (replicate (stride - 2) 0 ++ parts 0 m) (1 ∷ 4 ∷ []) refl)
-    one-more (suc n) m head =
-        let x = nilUnknown stride in
-        let at : length head + suc n * stride ≡ length (head ++ x) + n * stride =
-        omega (arith, length-append head x, length-replicate {A = ℕ} (stride - 2) 0, suc-mul n stride) in
-        ap (λ (d : List ℕ). pasted d (length head + suc n * stride) (1 ∷ 4 ∷ [])) (sym (append-assoc head x (parts n (suc m))))
-        ∙ ap (λ (k : ℕ). pasted ((head ++ x) ++ parts n (suc m)) k (1 ∷ 4 ∷ [])) at
-        ∙ one-more n m (head ++ x)
-        ∙ append-assoc head x (parts (suc n) m)
-
     pub unknown-more : (n : ℕ) → n < 8 → pasted (unknownTo n) (32 + n * stride) (1 ∷ 4 ∷ []) ≡ unknownTo (n + 1)
     unfolding unknownTo
     unknown-more n h =
-        let e : 8 - n ≡ suc (8 - (n + 1)) = omega arith in
-        let f : n + 1 ≡ suc n = omega arith in
-        ap (λ (m : ℕ). pasted (ahead ++ parts n m) (32 + n * stride) (1 ∷ 4 ∷ [])) e
-        ∙ one-more n (8 - (n + 1)) ahead
-        ∙ ap (λ (k : ℕ). ahead ++ parts k (8 - (n + 1))) (sym f)
+        let f : suc n ≡ n + 1 = omega arith in
+        put-piece stride [] n ahead (replicate 8 (after 1 4)) (replicate 8 (after 0 0)) (1 ∷ 4 ∷ []) (0 ∷ 0 ∷ [])
+        (replicate (stride - 2) 0) h refl (λ l m. after-long l (unknown-in 8 l (after 1 4) m))
+        (getD-replicate 8 n (after 0 0) [] h) (getD-replicate 8 n (after 1 4) [] h) refl
+        ∙ ap (λ (k : ℕ). ahead ++ joined (take k (replicate 8 (after 1 4)) ++ drop k (replicate 8 (after 0 0)))) f
 
     -- all eight
-    unknown-in : (n : ℕ) (v : Property) → In v (replicate n unmentioned) → v ≡ unmentioned
-    unknown-in zero v m = absurd m
-    unknown-in (suc n) v (inl e) = e
-    unknown-in (suc n) v (inr m) = unknown-in n v m
-
     pub unknown-carried : Carries stride unknownState (unknownTo 8)
     unfolding unknownTo noInstant
     unknown-carried = record {
@@ -331,8 +293,67 @@ module _ (stride : ℕ) where
       long = refl;
       is = refl;
       eight = refl;
-      sized = λ v m. ap (λ (w : Property). length (propertyBytes stride w)) (unknown-in 8 v m)
-          ∙ omega (arith, length-replicate {A = ℕ} (stride - 2) 0);
+      sized = λ v m. after-long (propertyBytes stride v) (ap (propertyBytes stride) (unknown-in 8 v unmentioned m));
       born = omega arith;
       gone = omega arith;
     }
+
+-- ---- properties that are all mentioned are written as they stand
+module _ (stride : ℕ) where
+  all-written : (xs : List (List ℕ)) → ((x : List ℕ) → In x xs → isMentioned (propertyOf x) ≡ true)
+      → map (propertyBytes stride) (map propertyOf xs) ≡ xs
+  all-written [] h = refl
+  all-written (x ∷ xs) h = λ i. mention-bytes stride (mentioned x) x (h x (inl refl)) i ∷ all-written xs (λ y m. h y (inr m)) i
+
+  module _ (r : List ℕ) (bytes : Bytes r) (size : length r ≡ recordSize stride) (clear : filled 0 8 r 24 ≡ true)
+      (every : all isMentioned (viewOf stride r .properties) ≡ true) where
+    parts-mentioned : (x : List ℕ) → In x (partsOf stride r) → isMentioned (propertyOf x) ≡ true
+    unfolding viewOf
+    parts-mentioned x m =
+        all-in isMentioned (map propertyOf (partsOf stride r)) every (propertyOf x) (in-map propertyOf (partsOf stride r) x m)
+
+    parts-laid : joined (map (propertyBytes stride) (viewOf stride r .properties)) ≡ drop 32 r
+    unfolding viewOf propertiesOf
+    parts-laid =
+        let n : 8 * stride ≡ length r - 32 = omega arith in
+        ap joined (all-written (partsOf stride r) parts-mentioned)
+        ∙ joined-pieces stride 8 (drop 32 r)
+        ∙ ap (λ (m : ℕ). take m (drop 32 r)) n
+        ∙ rest-whole 32 r
+
+    carry-record : Carries stride (started (viewOf stride r)) r
+    unfolding viewOf propertiesOf noInstant
+    carry-record = record {
+      front = take 16 r;
+      long = length-take-le 16 r (omega arith);
+      is = sym (take-append-drop 16 r) ∙ ap (λ (l : List ℕ). take 16 r ++ l)
+          (cut 4 16 r _ (number-bytes r 16 bytes (omega arith))
+          ∙ ap (λ (l : List ℕ). bytesOf 4 (beOf 4 r 16) ++ l)
+          (cut 4 20 r _ (number-bytes r 20 bytes (omega arith))
+          ∙ ap (λ (l : List ℕ). bytesOf 4 (beOf 4 r 20) ++ l)
+          (cut 8 24 r _ (zero-bytes r 8 24 clear (omega arith)) ∙ ap (λ (l : List ℕ). replicate 8 0 ++ l) (sym parts-laid))));
+      eight = view-eight stride r;
+      sized = λ v m. let (x, n, e) = map-in propertyOf (partsOf stride r) v m in
+          ap (λ (w : Property). length (propertyBytes stride w)) e
+          ∙ ap length (mention-bytes stride (mentioned x) x (parts-mentioned x n))
+          ∙ pieces-sized stride 8 (drop 32 r) (simp length-drop (omega arith)) x n;
+      born = omega (arith, instant-most r 16 bytes);
+      gone = omega (arith, instant-most r 20 bytes);
+    }
+
+-- ---- a BASELINE of a sound table
+module _ (p : List ℕ) (bytes : Bytes p) (sound : checkTable Permanent p ≡ Sound) where
+  abbrev at : ℕ → List ℕ
+  at i = recordAt (recordSize (strideOf p)) i p
+
+  pub carry-base : (i : ℕ) → i < countOf p → counts baseline (viewOf (strideOf p) (at i)) ≡ true
+      → Carries (strideOf p) (started (viewOf (strideOf p) (at i))) (at i)
+  unfolding counts contentRight contentOf viewOf
+  carry-base i h c =
+      let (k, n) = and-both (eqb (viewOf (strideOf p) (at i) .kind) baseline) (not (viewOf (strideOf p) (at i) .cancelled)) c in
+      let m = record-in (recordSize (strideOf p)) p i h (sound-table Permanent p sound .roomy) in
+      let good = sound-in Permanent p sound (at i) m in
+      ⊎-elim
+      (λ x. contrary (x .cancelled) (not-true _ n))
+      (λ x. carry-record (strideOf p) (at i) (bytes-records p bytes (at i) m) (good .size) (good .reserved) (rw k at (x .content)))
+      (good .rest)

@@ -1,67 +1,44 @@
--- The records that are drawn, one behind the other, and the lines that they are drawn from. Assumes nothing.
-use Prim.Native.Nat.{ℕ, suc, _+_, _≤_}
+-- The second sweep: the records that are drawn, one behind the other, and the lines that they are drawn from. Assumes nothing.
+use Prim.Native.Nat.{ℕ, _+_, _*_, _≤_, _<_}
 use mathlib.Core.Path.{_≡_, sym, ap, _∙_, subst}
-use mathlib.Core.Bool.{true, cond}
-use mathlib.Core.List.{List, [], _∷_, _++_, append-nil}
+use mathlib.Core.Bool.{Bool, true, false}
+use mathlib.Core.List.{List, [], _∷_, _++_}
 use native.Mathlib.Omega.{arith}
-use lib.ListN.{length, take, drop, length-append}
-use lib.Seq.{length-take-le, drop-drop}
+use lib.ListN.{length, take, drop, getD, length-append}
+use lib.Seq.{drop-drop}
 use borrow.Rule.Slice.PartMut.{putMid}
 use Rattle.laws.specs.Lists.{joined}
-use Rattle.laws.proofs.Tests.{tests, by-test}
-use Rattle.laws.proofs.Pieces.{joined-append}
+use Rattle.laws.proofs.Tests.{tests, contrary, never}
+use Rattle.laws.proofs.Pieces.{joined-more}
+use Rattle.octets.specs.Bytes.{Bytes}
 use Rattle.octets.specs.Writing.{pasted}
 use Rattle.octets.proofs.Writing.{pasted-whole, pasted-then, pasted-length}
-use Rattle.numbers.specs.Numbers.{before}
+use Rattle.numbers.specs.Numbers.{noInstant, before}
 use Rattle.numbers.specs.declared.Instant.{Instant}
-use Rattle.slice.specs.Record.{recordSize}
-use Rattle.history.specs.State.{State}
-use Rattle.history.specs.Sweep.{Seen}
-use Rattle.history.proofs.Changes.{later}
+use Rattle.events.specs.Order.{placeOf}
+use Rattle.slice.specs.Record.{recordSize, Slice}
+use Rattle.table.specs.Header.{strideOf, recordAt}
+use Rattle.history.specs.Derived.{twoAnchors}
+use Rattle.history.specs.Sweep.{nothing, seen}
 use Rattle.state.specs.Asking.{slicesOf}
-use Rattle.baselines.specs.Sweeping.{timesOf, isKnown}
-use Rattle.baselines.specs.Carried.{Carries, lineSize, recordOf, Lines}
-use Rattle.baselines.specs.Deriving.{derivedRecords}
-use Rattle.baselines.specs.Steps.{drawnRecord}
-use Rattle.baselines.proofs.Carried.{carried-drawn}
-use Rattle.baselines.proofs.Told.{known-line}
-use Rattle.baselines.proofs.Walked.{drawnFrom, Walked}
+use Rattle.state.proofs.Pasting.{pasted-none}
+use Rattle.baselines.specs.Noting.{headOf}
+use Rattle.baselines.specs.Sweeping.{timesOf, passedWith, isKnown, isTwo, nextWith}
+use Rattle.baselines.specs.Carried.{Carries, recordOf, Lined, unknownState, Lines, GoesOn}
+use Rattle.baselines.specs.Steps.{Sweepable, FitsIn, drawnRecord, DrawsKnown}
+use Rattle.baselines.specs.declared.sweeping.Sweep.{Sweep}
+use Rattle.baselines.proofs.Going.{Going, Turn, stateAt, going-start, going-drawn, going-comes, going-record, going-gone}
+use Rattle.baselines.proofs.Going.{going-two, going-on, going-past, going-more}
+use Rattle.baselines.proofs.Passes.{derived-long}
 
--- ---- lines
--- both lines stay at hand until a later instant
-pub lines-later : (stride : ℕ) (v : Seen) (t u : Instant) (base line : List ℕ) → t .0 ≤ u .0 → Lines stride v t base line
-    → Lines stride v u base line
+-- an end at 0 is before no instant
+never-before : (t : Instant) → before t (record { 0 = 0 }) ≡ false
 unfolding before
-lines-later stride v t u base line h l = record { based = λ b. l .based (omega tests); opened = l .opened }
-
--- the record that is drawn from one is as long
-drawn-long : (stride : ℕ) (s : State) (r : List ℕ) → Carries stride s r → (n : ℕ) (begin end : Instant)
-    → length (drawnRecord stride n begin end s) ≡ length r
-drawn-long stride s r c n begin end = ap length (sym (carried-drawn stride s r c n begin end)) ∙ pasted-length r _ 0
-
--- that of the state that is known is as long as both
-pub known-long : (stride : ℕ) (v : Seen) (t : Instant) (base line : List ℕ) → Lines stride v t base line
-    → isKnown (timesOf v) t ≡ true
-    → length base ≡ lineSize stride → length line ≡ lineSize stride → (n : ℕ) (end : Instant)
-    → length (drawnRecord stride n t end (cond (before t (v .end)) (v .base) (v .line))) ≡ recordSize stride
-known-long stride v t base line l k h g n end =
-    let long : (d : List ℕ) → length d ≡ lineSize stride → length (recordOf stride d) ≡ recordSize stride =
-    λ d e. length-take-le (recordSize stride) d (omega (arith, e)) in
-    by-test (before t (v .end))
-    (λ b. rw b (drawn-long stride (v .base) (recordOf stride base) (l .based b) n t end ∙ long base h))
-    (λ b. rw b
-    (drawn-long stride (v .line) (recordOf stride line)
-    (subst (λ (s : State). Carries stride s (recordOf stride line)) (known-line v t k b) (l .opened)) n t end ∙ long line g))
+never-before t = omega tests
 
 -- ---- records
-joined-more : (done : List (List ℕ)) (r : List ℕ) → joined (done ++ (r ∷ [])) ≡ joined done ++ r
-joined-more done r = joined-append 0 done (r ∷ []) ∙ ap (λ (l : List ℕ). joined done ++ l) (append-nil r)
-
-pub joined-long : (done : List (List ℕ)) (r : List ℕ) → length (joined (done ++ (r ∷ []))) ≡ length (joined done) + length r
-joined-long done r = ap length (joined-more done r) ∙ length-append (joined done) r
-
 -- one more, behind those before it
-pub drawn-behind : (o : List ℕ) (done : List (List ℕ)) (r : List ℕ) (from k : ℕ) → from ≡ 32 + length (joined done) → k ≡ length r
+drawn-behind : (o : List ℕ) (done : List (List ℕ)) (r : List ℕ) (from k : ℕ) → from ≡ 32 + length (joined done) → k ≡ length r
     → from + length r ≤ length o
     → putMid from k (pasted o 32 (joined done)) r ≡ pasted o 32 (joined (done ++ (r ∷ [])))
 drawn-behind o done r from k e q h =
@@ -70,23 +47,127 @@ drawn-behind o done r from k e q h =
     ap (λ (l : List ℕ). take from d ++ (r ++ l)) (drop-drop k from d ∙ ap (λ (m : ℕ). drop (from + m) d) q)
     ∙ sym (pasted-whole d r from n)
     ∙ pasted-then o (joined done) r 32 from (sym e) h
-    ∙ ap (pasted o 32) (sym (joined-more done r))
+    ∙ ap (pasted o 32) (sym (joined-more 0 done r))
 
--- there is room for it
-module _ (p : List ℕ) (t : Instant) (done : List (List ℕ)) (r : List ℕ) (w : Walked p t (done ++ (r ∷ []))) where
-  -- those behind it
-  abbrev others : List (List ℕ)
-  others = drawnFrom p (suc (length (done ++ (r ∷ [])))) (later (slicesOf p) (w .since))
+-- ---- the records of the change instants before are drawn, and both lines are at hand
+pub record Drawing (p E o base line output : List ℕ) (s : Sweep) (at : ℕ) (t : Instant) (count : ℕ) : Type 0 where
+  pub xs : List Slice
+  pub done : List (List ℕ)
+  pub going : Going p E s at t count xs done
+  pub lines : Lines (strideOf p) (seen xs) t base line
+  pub long : Lined (strideOf p) base line
+  pub drawn : output ≡ pasted o 32 (joined done)
 
-  pub drawn-few : suc (length done) ≤ length (derivedRecords p)
-  drawn-few = omega (arith, ap length (w .all), length-append (done ++ (r ∷ [])) others, length-append done (r ∷ []))
+pub drawing-start : {p E o base line : List ℕ} → Bytes p → Sweepable p E → FitsIn p o → Lined (strideOf p) base line
+    → Carries (strideOf p) unknownState (recordOf (strideOf p) line) → {t : Instant} → t ≡ headOf E → {s : Sweep}
+    → s ≡ timesOf nothing → Drawing p E o base line o s 0 t 0
+drawing-start {o = o} bytes (sound, are, _) fits long says {t} e k = record {
+  xs = [];
+  done = [];
+  going = going-start bytes sound are e k;
+  lines = record { based = λ b. contrary b (never-before t); opened = says };
+  long = long;
+  drawn = pasted-none o 32 (omega (arith, fits .1));
+}
 
-  pub drawn-room : length (joined done) + length r ≤ length (joined (derivedRecords p))
-  drawn-room =
-      omega (
+module _ {p E o base line output : List ℕ} {s : Sweep} {at : ℕ} {t : Instant} {count : ℕ}
+    (d : Drawing p E o base line output s at t count) {next : Instant} {same : Bool} (u : Turn E at t next same) where
+  -- ---- an event of the instant
+  module _ (now : same ≡ true) where
+    pub drawing-record : {place : ℕ} → place ≡ placeOf (getD E at 0) → {r : List ℕ}
+        → r ≡ recordAt (recordSize (strideOf p)) place p → place < 256 → {n : ℕ} → n ≡ strideOf p → {s' : Sweep}
+        → s' ≡ passedWith s r t → {base' line' : List ℕ} → GoesOn n s r t base line base' line' → length base' ≡ length base
+        → length line' ≡ length line → Drawing p E o base' line' output s' (at + 1) t count
+    drawing-record q {r} f small e k {base'} {line'} goes b l = record {
+      xs = _;
+      done = d .done;
+      going = going-record (d .going) u now q f small k;
+      lines = subst (λ (m : ℕ). GoesOn m s r t base line base' line') e goes (seen (d .xs)) (d .going .told)
+          (going-comes (d .going) u now q f small) (d .lines);
+      long = (b ∙ d .long .0, l ∙ d .long .1);
+      drawn = d .drawn;
+    }
+
+    pub drawing-gone : (placeOf (getD E at 0) < 256 → ⊥) → Drawing p E o base line output s (at + 1) t count
+    drawing-gone h = record {
+      xs = d .xs;
+      done = d .done;
+      going = going-gone (d .going) u now h;
+      lines = d .lines;
+      long = d .long;
+      drawn = d .drawn;
+    }
+
+  -- ---- a change instant is done
+  module _ (past : same ≡ false) (no-two : twoAnchors (slicesOf p) ≡ false) {end : Instant} (e : end ≡ nextWith s t next) where
+    one : isTwo s t ≡ false
+    one = never _ (λ y. contrary (going-two (d .going) u past y) no-two)
+
+    pub drawing-on : (t .0 + 1 ≤ end .0) × (end .0 ≤ noInstant)
+    drawing-on = going-on (d .going) u past one e
+
+    -- both lines stay at hand
+    later : Lines (strideOf p) (seen (d .xs)) end base line
+    unfolding before
+    later = record { based = λ b. d .lines .based (omega (tests, drawing-on .0)); opened = d .lines .opened }
+
+    pub drawing-past : isKnown s t ≡ false → Drawing p E o base line output s at end count
+    drawing-past h = record {
+      xs = d .xs;
+      done = d .done;
+      going = going-past (d .going) u past one e h;
+      lines = later;
+      long = d .long;
+      drawn = d .drawn;
+    }
+
+    -- where there is a state, its record
+    module _ (h : isKnown s t ≡ true) {size : ℕ} (size-is : size ≡ recordSize (strideOf p)) (fits : FitsIn p o) where
+      abbrev r : List ℕ
+      r = drawnRecord (strideOf p) (count + 1) t end (stateAt (d .xs) t)
+
+      more : Going p E s at end (count + 1) (d .xs) (d .done ++ (r ∷ []))
+      more = going-more (d .going) u past one e h
+
+      r-long : length r ≡ recordSize (strideOf p)
+      r-long = omega (
         arith,
-        ap (λ (l : List (List ℕ)). length (joined l)) (w .all),
-        ap length (joined-append 0 (done ++ (r ∷ [])) others),
-        length-append (joined (done ++ (r ∷ []))) (joined others),
-        joined-long done r,
+        going-drawn (d .going) .1,
+        going-drawn more .1,
+        ap length (joined-more 0 (d .done) r),
+        length-append (joined (d .done)) r,
       )
+
+      pub drawing-room : (count + 1 ≤ 256) × (32 + count * size + size ≤ 57376) × (32 + count * size + size ≤ length output)
+      drawing-room =
+          let n = going-drawn more .0 in
+          let l = derived-long p (d .going .run .evs .bytes) (d .going .run .evs .sound) in
+          let k : length output ≡ length o = ap length (d .drawn) ∙ pasted-length o (joined (d .done)) 32 in
+          rw size-is (omega (arith, fits .0), omega (arith, fits .0), omega (arith, fits .1))
+
+      pub drawing-more : {n : ℕ} → n ≡ strideOf p → {q : List ℕ} → DrawsKnown n s t base line (count + 1) end q → {k : ℕ}
+          → k ≡ size → Drawing p E o base line (putMid (32 + count * size) k output q) s at end (count + 1)
+      drawing-more {n} z {q} draws {k} y = record {
+        xs = d .xs;
+        done = d .done ++ (r ∷ []);
+        going = more;
+        lines = later;
+        long = d .long;
+        drawn = (λ i. putMid (32 + count * size) k (d .drawn i) (is i))
+            ∙ drawn-behind o (d .done) r (32 + count * size) k from (y ∙ size-is ∙ sym r-long) room;
+      }
+        where
+          is : q ≡ r
+          is = subst (λ (m : ℕ). DrawsKnown m s t base line (count + 1) end q) z draws (seen (d .xs)) (d .going .told) h (d .lines)
+
+          from : 32 + count * size ≡ 32 + length (joined (d .done))
+          from = rw size-is (omega (arith, going-drawn (d .going) .1))
+
+          room : 32 + count * size + length r ≤ length o
+          room = omega (
+            arith,
+            drawing-room .2,
+            r-long,
+            size-is,
+            ap length (d .drawn) ∙ pasted-length o (joined (d .done)) 32,
+          )

@@ -1,53 +1,67 @@
 -- One turn of a sweep, by the times that it carries: an event is passed, or a change instant is done. Assumes nothing.
-use Prim.Native.Nat.{ℕ, suc, _+_, _≤_, _<_}
-use mathlib.Core.Path.{_≡_, refl, sym, ap, _∙_}
-use mathlib.Core.Bool.{true, false, cond, not, _&&_}
+use Prim.Native.Nat.{ℕ, suc, _+_, _*_, _≤_, _<_}
+use mathlib.Core.Path.{_≡_, refl, sym, ap, _∙_, subst}
+use mathlib.Core.Bool.{Bool, true, false, cond, not, _&&_}
 use mathlib.Core.List.{List, [], _∷_, _++_}
+use mathlib.Core.Logic.{inl}
 use native.Mathlib.Omega.{arith}
-use lib.ListN.{length, drop, getD, drop-of-length-le}
+use lib.ListN.{length, drop, getD, length-append, drop-of-length-le}
 use lib.Dec.{ltb}
 use borrow.Author.Tests.{not-true}
+use Rattle.laws.specs.Lists.{joined}
 use Rattle.laws.proofs.Tests.{tests, pick-ind, by-test, and-both}
+use Rattle.laws.proofs.Pieces.{joined-length}
 use Rattle.octets.specs.Bytes.{Bytes}
 use Rattle.numbers.specs.Numbers.{noInstant, isNone, before, sameInstant}
 use Rattle.numbers.specs.declared.Instant.{Instant}
 use Rattle.numbers.proofs.Facts.{none-false, same-true}
-use Rattle.events.specs.Order.{placeOf}
-use Rattle.slice.specs.Record.{recordSize, Slice}
+use Rattle.events.specs.Order.{placeOf, inOrder}
+use Rattle.slice.specs.Record.{recordSize, Slice, viewOf}
 use Rattle.slice.specs.declared.check.Checked.the-variants.{Sound}
 use Rattle.table.specs.Header.{countOf, strideOf, recordAt}
 use Rattle.table.specs.Rules.{checkTable}
 use Rattle.table.specs.declared.check.Sides.the-variants.{Permanent}
+use Rattle.table.proofs.Sound.{sound-table}
 use Rattle.history.specs.State.{State}
 use Rattle.history.specs.Changes.{nextOf}
 use Rattle.history.specs.Derived.{twoAnchors}
-use Rattle.history.specs.Permanent.{known, permanentAt}
-use Rattle.history.specs.Sweep.{nothing, seen, isCounted}
-use Rattle.history.proofs.Changes.{later, justAfter}
+use Rattle.history.specs.Sweep.{nothing, seen, tellsTwo, isCounted}
+use Rattle.history.proofs.Changes.{Bounded, later, justAfter}
+use Rattle.history.proofs.Selection.{append-in}
 use Rattle.state.specs.Asking.{slicesOf}
-use Rattle.baselines.specs.Noting.{headOf}
+use Rattle.state.proofs.Walks.{size-at}
+use Rattle.baselines.specs.Noting.{noted, headOf}
 use Rattle.baselines.specs.Sweeping.{timesOf, passedWith, isKnown, isTwo, nextWith}
+use Rattle.baselines.specs.Carried.{Comes}
 use Rattle.baselines.specs.Deriving.{derivedRecords}
 use Rattle.baselines.specs.Steps.{drawnRecord}
 use Rattle.baselines.specs.declared.sweeping.Sweep.{Sweep}
-use Rattle.baselines.proofs.Changes.{slices-bounded}
-use Rattle.baselines.proofs.Events.{sliceAt, eventful}
-use Rattle.baselines.proofs.Swept.{eventsOf, Run, first-here, run-start, run-on, run-record, run-gone}
-use Rattle.baselines.proofs.Swept.{record-placed, record-begins, record-counts}
-use Rattle.baselines.proofs.Swept.{two-here, state-here, next-here}
-use Rattle.baselines.proofs.Told.{pass-told, openings-few, two-times, next-times, known-told, unknown-told}
-use Rattle.baselines.proofs.Walked.{Walked, walked-none, walked-given, walked-in, walked-on, walked-past, walked-more}
-use Rattle.baselines.proofs.Walked.{walked-all}
+use Rattle.baselines.proofs.Noted.{slices-bounded, sliceAt}
+use Rattle.baselines.proofs.Events.{Eventful, eventful}
+use Rattle.baselines.proofs.Swept.{Run, first-here, run-start, run-on, record-here, run-record, run-gone, two-here}
+use Rattle.baselines.proofs.Swept.{state-here, next-here}
+use Rattle.baselines.proofs.Lines.{pass-told, openings-few, two-times, next-times, known-told, unknown-told}
+use Rattle.baselines.proofs.Walked.{drawnFrom, Walked, walked-none, walked-given, walked-in, walked-on, walked-past}
+use Rattle.baselines.proofs.Walked.{walked-more, walked-all}
+use Rattle.baselines.proofs.Carried.{carry-base}
+use Rattle.baselines.proofs.Passes.{derived-sized}
 
 -- a sweep is at an event and an instant: it has passed some slices, and its times are those of what it has seen; the records of
--- the
--- change instants before are done
-pub record Going (p : List ℕ) (s : Sweep) (at : ℕ) (t : Instant) (xs : List Slice) (done : List (List ℕ)) : Type 0 where
-  pub run : Run p at t xs
-  pub told : s ≡ timesOf (seen xs)
-  pub few : length xs ≤ at
-  pub within : at ≤ length (eventsOf p)
-  pub walked : Walked p t done
+-- the change instants before are done, and counted
+pub record Going (p E : List ℕ) (s : Sweep) (at : ℕ) (t : Instant) (count : ℕ) (xs : List Slice) (done : List (List ℕ)) : Type 0
+  where
+    pub run : Run p E at t xs
+    pub told : s ≡ timesOf (seen xs)
+    pub few : length xs ≤ at
+    pub within : at ≤ length E
+    pub walked : Walked p t done
+    pub counted : count ≡ length done
+
+-- a turn: the next event, and whether it is of the instant
+pub record Turn (E : List ℕ) (at : ℕ) (t next : Instant) (same : Bool) : Type 0 where
+  pub go : isNone t ≡ false
+  pub ahead : next ≡ headOf (drop at E)
+  pub is : same ≡ sameInstant next t
 
 -- the state that is known at t
 abbrev pub stateAt : List Slice → Instant → State
@@ -62,117 +76,145 @@ next-most s t next =
     tests)
     (λ _. omega tests)
 
-module _ (p : List ℕ) (bytes : Bytes p) (sound : checkTable Permanent p ≡ Sound) where
-  pub going-start : Going p (timesOf nothing) 0 (headOf (eventsOf p)) [] []
-  going-start = record {
-    run = run-start p bytes sound;
-    told = refl;
-    few = omega arith;
-    within = omega arith;
-    walked = walked-none p (slices-bounded p bytes) (headOf (eventsOf p)) (first-here p bytes sound);
-  }
+pub going-start : {p E : List ℕ} → Bytes p → checkTable Permanent p ≡ Sound → E ≡ inOrder (noted (slicesOf p)) → {t : Instant}
+    → t ≡ headOf E → {s : Sweep} → s ≡ timesOf nothing → Going p E s 0 t 0 [] []
+going-start {p} {E} bytes sound are e k =
+    let evs = subst (Eventful p) (sym are) (eventful p bytes sound) in
+    rw (e, k) (record {
+      run = run-start evs;
+      told = refl;
+      few = omega arith;
+      within = omega arith;
+      walked = walked-none p (slices-bounded p bytes) (headOf E) (first-here evs);
+      counted = refl;
+    })
 
-  module _ (s : Sweep) (at : ℕ) (t : Instant) (xs : List Slice) (done : List (List ℕ)) (g : Going p s at t xs done)
-      (go : isNone t ≡ false) where
-    pub going-few : s .openings ≤ 512
-    going-few = let o = ap (λ z. z .openings) (g .told) in
-        omega (arith, openings-few xs, g .few, g .within, eventful p bytes sound .few)
+module _ {p E : List ℕ} {s : Sweep} {at : ℕ} {t : Instant} {count : ℕ} {xs : List Slice} {done : List (List ℕ)}
+    (g : Going p E s at t count xs done) where
+  abbrev evs : Eventful p E
+  evs = g .run .evs
 
-    pub going-given : t .0 < noInstant
-    going-given = walked-given p (slices-bounded p bytes) t done (g .walked) go
+  low : Bounded (slicesOf p)
+  low = slices-bounded p (evs .bytes)
+
+  pub going-few : s .openings ≤ 512
+  going-few = let o = ap (λ z. z .openings) (g .told) in omega (arith, openings-few xs, g .few, g .within, evs .few)
+
+  -- the records that are done are the first of all
+  pub going-drawn : (count ≤ length (derivedRecords p)) × (length (joined done) ≡ count * recordSize (strideOf p))
+  going-drawn =
+      let rest = drawnFrom p (suc (length done)) (later (slicesOf p) (g .walked .since)) in (
+        omega (arith, g .counted, ap length (g .walked .all), length-append done rest),
+        joined-length (recordSize (strideOf p)) done
+            (λ l m. derived-sized p (evs .bytes) (evs .sound) l (rw (g .walked .all) (append-in done rest l .1 (inl m))))
+            ∙ ap (λ (n : ℕ). n * recordSize (strideOf p)) (sym (g .counted)),
+      )
+
+  -- the end of the sweep
+  pub going-end : isNone t ≡ true → (derivedRecords p ≡ done) × (twoAnchors (slicesOf p) ≡ false)
+  going-end = walked-all p (g .walked)
+
+  module _ {next : Instant} {same : Bool} (u : Turn E at t next same) where
+    head-is : sameInstant (headOf (drop at E)) t ≡ same
+    head-is = ap (λ (n : Instant). sameInstant n t) (sym (u .ahead)) ∙ sym (u .is)
 
     -- ---- an event of the instant
-    module _ (now : sameInstant (headOf (drop at (eventsOf p))) t ≡ true) where
-      pub going-within : at < length (eventsOf p)
-      going-within =
-          by-test (ltb at (length (eventsOf p))) (λ y. omega tests)
-          (λ n. let l : length (eventsOf p) ≤ at = omega tests in
-          absurd (none-false t go (sym (same-true (headOf (drop at (eventsOf p))) t now)
-          ∙ ap (λ l. headOf l .0) (drop-of-length-le (eventsOf p) {i = at} l))))
+    module _ (now : same ≡ true) where
+      here : sameInstant (headOf (drop at E)) t ≡ true
+      here = head-is ∙ now
 
-      abbrev pub event : ℕ
-      event = getD (eventsOf p) at 0
+      pub going-within : (at < length E) × (length E ≤ 512)
+      going-within = (
+        by-test (ltb at (length E)) (λ y. omega tests)
+            (λ n. let l : length E ≤ at = omega tests in
+            absurd (none-false t (u .go) (sym (same-true (headOf (drop at E)) t here)
+            ∙ ap (λ l. headOf l .0) (drop-of-length-le E {i = at} l)))),
+        evs .few,
+      )
 
-      pub going-begins : placeOf event < 256 → sliceAt p (placeOf event) .period .begin ≡ t
-      going-begins = record-begins p bytes sound at t xs (g .run) going-within now
+      -- that of a record
+      module _ {place : ℕ} (q : place ≡ placeOf (getD E at 0)) {r : List ℕ} (f : r ≡ recordAt (recordSize (strideOf p)) place p)
+          (small : place < 256) where
+        placed : (place < countOf p) × (sliceAt p place .period .begin ≡ t) × (isCounted (sliceAt p place) ≡ true)
+        placed = rw q (record-here (g .run) (going-within .0) here (rw q at small))
 
-      pub going-placed : placeOf event < 256 → placeOf event < countOf p
-      going-placed = record-placed p bytes sound at t xs (g .run) going-within now
+        pub going-sized : length r ≡ recordSize (strideOf p)
+        going-sized = ap length f ∙ size-at p (sound-table Permanent p (evs .sound) .roomy) place (placed .0)
 
-      pub going-counts : placeOf event < 256 → isCounted (sliceAt p (placeOf event)) ≡ true
-      going-counts = record-counts p bytes sound at t xs (g .run) going-within now
+        pub going-comes : Comes (strideOf p) r t
+        going-comes = rw f (record {
+          begins = placed .1;
+          counted = placed .2;
+          own = carry-base p (evs .bytes) (evs .sound) place (placed .0);
+        })
 
-      pub going-record : placeOf event < 256 → (s' : Sweep)
-          → s' ≡ passedWith s (recordAt (recordSize (strideOf p)) (placeOf event) p) t
-          → Going p s' (at + 1) t (sliceAt p (placeOf event) ∷ xs) done
-      going-record h s' e = record {
-        run = run-record p bytes sound at t xs (g .run) going-within now h;
-        told = e ∙ ap (λ (z : Sweep). passedWith z (recordAt (recordSize (strideOf p)) (placeOf event) p) t) (g .told)
-            ∙ pass-told (strideOf p) (seen xs) (recordAt (recordSize (strideOf p)) (placeOf event) p) t (going-begins h);
-        few = omega (arith, g .few);
-        within = omega (arith, going-within);
-        walked = g .walked;
-      }
+        pub going-record : {s' : Sweep} → s' ≡ passedWith s r t → Going p E s' (at + 1) t count (viewOf (strideOf p) r ∷ xs) done
+        going-record e = record {
+          run = rw (f, q) (run-record (g .run) (going-within .0) here (rw q at small));
+          told = e ∙ ap (λ (z : Sweep). passedWith z r t) (g .told) ∙ pass-told (strideOf p) (seen xs) r t (going-comes .begins);
+          few = omega (arith, g .few);
+          within = omega (arith, going-within .0);
+          walked = g .walked;
+          counted = g .counted;
+        }
 
-      pub going-gone : (placeOf event < 256 → ⊥) → Going p s (at + 1) t xs done
+      pub going-gone : (placeOf (getD E at 0) < 256 → ⊥) → Going p E s (at + 1) t count xs done
       going-gone h = record {
-        run = run-gone p bytes sound at t xs (g .run) going-within now h;
+        run = run-gone (g .run) (going-within .0) here h;
         told = g .told;
         few = omega (arith, g .few);
-        within = omega (arith, going-within);
+        within = omega (arith, going-within .0);
         walked = g .walked;
+        counted = g .counted;
       }
 
     -- ---- all events of the instant are passed
-    module _ (over : sameInstant (headOf (drop at (eventsOf p))) t ≡ false) where
+    module _ (past : same ≡ false) where
+      over : sameInstant (headOf (drop at E)) t ≡ false
+      over = head-is ∙ past
+
       pub going-two : isTwo s t ≡ true → twoAnchors (slicesOf p) ≡ true
       going-two h =
-          two-here p bytes sound at t xs (g .run) go over (walked-in p (slices-bounded p bytes) t done (g .walked) go)
+          two-here (g .run) over (walked-in p low (g .walked) (u .go))
           (sym (two-times (seen xs) t) ∙ ap (λ (z : Sweep). isTwo z t) (sym (g .told)) ∙ h)
 
       module _ (one : isTwo s t ≡ false) where
-        one-told : isTwo (timesOf (seen xs)) t ≡ false
-        one-told = ap (λ (z : Sweep). isTwo z t) (sym (g .told)) ∙ one
+        tells-one : tellsTwo (seen xs) t ≡ false
+        tells-one = sym (two-times (seen xs) t) ∙ ap (λ (z : Sweep). isTwo z t) (sym (g .told)) ∙ one
 
-        pub going-known : isKnown s t ≡ true → permanentAt t (slicesOf p) ≡ known (stateAt xs t)
-        going-known h =
-            state-here p bytes sound at t xs (g .run) go over (sym (two-times (seen xs) t) ∙ one-told)
-            ∙ known-told (seen xs) t (ap (λ (z : Sweep). isKnown z t) (sym (g .told)) ∙ h)
-
-        module _ (end : Instant) (e : end ≡ nextWith s t (headOf (drop at (eventsOf p)))) where
+        module _ {end : Instant} (e : end ≡ nextWith s t next) where
           end-is : end ≡ nextOf (later (slicesOf p) (justAfter t))
           end-is =
-              e ∙ ap (λ (z : Sweep). nextWith z t (headOf (drop at (eventsOf p)))) (g .told)
-              ∙ next-times (seen xs) t (headOf (drop at (eventsOf p)))
-              ∙ next-here p bytes sound at t xs (g .run) go over (sym (two-times (seen xs) t) ∙ one-told)
+              e ∙ (λ i. nextWith (g .told i) t (u .ahead i)) ∙ next-times (seen xs) t (headOf (drop at E))
+              ∙ next-here (g .run) over tells-one
 
           pub going-on : (t .0 + 1 ≤ end .0) × (end .0 ≤ noInstant)
-          going-on = walked-on p (slices-bounded p bytes) t done (g .walked) go end end-is
+          going-on = walked-on p low (g .walked) (u .go) end-is
 
-          onward : (done' : List (List ℕ)) → Walked p end done' → Going p s at end xs done'
-          onward done' w = record {
-            run = run-on p bytes sound at t end xs (g .run) (omega (arith, going-on .0)) below;
+          onward : {done' : List (List ℕ)} → Walked p end done' → {n : ℕ} → n ≡ length done' → Going p E s at end n xs done'
+          onward w q = record {
+            run = run-on (g .run) end (omega (arith, going-on .0)) below;
             told = g .told;
             few = g .few;
             within = g .within;
             walked = w;
+            counted = q;
           }
             where
-              below : end .0 ≤ headOf (drop at (eventsOf p)) .0
-              below = rw e (next-most s t (headOf (drop at (eventsOf p))))
+              below : end .0 ≤ headOf (drop at E) .0
+              below = rw (e, ← u .ahead) (next-most s t next)
 
-          pub going-past : isKnown s t ≡ false → Going p s at end xs done
+          pub going-past : isKnown s t ≡ false → Going p E s at end count xs done
           going-past h =
-              let (k, v, n) = unknown-told (seen xs) t going-given (ap (λ (z : Sweep). isKnown z t) (sym (g .told)) ∙ h) in
-              onward done (walked-past p (slices-bounded p bytes) t done (g .walked) go end end-is k
-              (state-here p bytes sound at t xs (g .run) go over (sym (two-times (seen xs) t) ∙ one-told) ∙ v) n)
+              let (k, v, n) = unknown-told (seen xs) t (walked-given p low (g .walked) (u .go))
+              (ap (λ (z : Sweep). isKnown z t) (sym (g .told)) ∙ h) in
+              onward (walked-past p low (g .walked) (u .go) end-is k (state-here (g .run) over tells-one ∙ v) n) (g .counted)
 
           pub going-more : isKnown s t ≡ true
-              → Going p s at end xs (done ++ (drawnRecord (strideOf p) (suc (length done)) t end (stateAt xs t) ∷ []))
+              → Going p E s at end (count + 1) xs (done ++ (drawnRecord (strideOf p) (count + 1) t end (stateAt xs t) ∷ []))
           going-more h =
-              onward _ (walked-more p (slices-bounded p bytes) t done (g .walked) go end end-is (stateAt xs t) (going-known h))
-
-  -- ---- the end of the sweep
-  pub going-end : (s : Sweep) (at : ℕ) (t : Instant) (xs : List Slice) (done : List (List ℕ)) → Going p s at t xs done
-      → isNone t ≡ true → (derivedRecords p ≡ done) × (twoAnchors (slicesOf p) ≡ false)
-  going-end s at t xs done g = walked-all p t done (g .walked)
+              let n : count + 1 ≡ suc (length done) = omega (arith, g .counted) in
+              let known = state-here (g .run) over tells-one
+              ∙ known-told (seen xs) t (ap (λ (z : Sweep). isKnown z t) (sym (g .told)) ∙ h) in
+              onward (rw n (walked-more p low (g .walked) (u .go) end-is (stateAt xs t) known))
+              (omega (arith, n, length-append done (drawnRecord (strideOf p) (count + 1) t end (stateAt xs t) ∷ [])))

@@ -1,5 +1,5 @@
 -- A slice as a record: the record says that slice again. Assumes nothing.
-use Prim.Native.Nat.{ℕ, _+_, _*_, _/_, _%_, _≤_, _<_}
+use Prim.Native.Nat.{ℕ, _+_, _*_, _%_, _≤_, _<_}
 use mathlib.Core.Path.{_≡_, refl, sym, ap, _∙_}
 use mathlib.Core.List.{List, [], _∷_, _++_, map, append-nil}
 use mathlib.Core.Bool.{Bool, true, false, cond}
@@ -7,27 +7,29 @@ use mathlib.Core.Logic.{inl, inr}
 use native.Mathlib.Omega.{arith}
 use lib.ListN.{length, length-map}
 use lib.Dec.{eqb}
-use Rattle.laws.specs.Lists.{pieces, joined}
+use Rattle.laws.specs.Lists.{any, pieces, joined}
 use Rattle.laws.specs.Keyed.{In}
-use Rattle.laws.proofs.Lists.{map-in}
+use Rattle.laws.proofs.Lists.{map-in, none-any}
 use Rattle.laws.proofs.Pieces.{Sized, joined-length, pieces-joined}
 use Rattle.octets.specs.Bytes.{byteOf, digits, beOf}
 use Rattle.octets.proofs.Readers.{be-whole}
-use Rattle.property.specs.Eight.{propertiesOf, mentioned}
-use Rattle.slice.specs.Record.{recordSize, partsOf, Property, says, propertyOf, Slice, viewOf}
+use Rattle.octets.proofs.Stored.{two-back, four-back}
+use Rattle.property.specs.Eight.{propertiesOf, breaks, mentioned}
+use Rattle.slice.specs.Record.{recordSize, partsOf, Property, says, propertyOf, Slice, viewOf, unmentioned}
+use Rattle.history.specs.Derived.{filledIn}
+use Rattle.state.specs.Written.{nilUnknown, propertyBytes}
 use Rattle.baselines.specs.Laid.{partFor, recordFor}
 
--- ---- a number from its own bytes
-two-back : (v : ℕ) → v < 65536 → (0 * 256 + v / 256 % 256) * 256 + v % 256 ≡ v
-two-back v h = omega arith
+-- a property is written as in the state's record, by whatever writes the bytes that one says
+pub filled-by : (stride : ℕ) (write : Property → List ℕ) → ((b : List ℕ) → write (says b) ≡ b) → (vs : List Property)
+    → map write (map (filledIn (nilUnknown stride)) vs) ≡ map (propertyBytes stride) vs
+filled-by stride write own [] = refl
+filled-by stride write own (unmentioned ∷ vs) = rw (own (nilUnknown stride), filled-by stride write own vs)
+filled-by stride write own (says b ∷ vs) = rw (own b, filled-by stride write own vs)
 
-four-back : (v : ℕ) → v < 4294967296
-    → (((0 * 256 + v / 256 / 256 / 256 % 256) * 256 + v / 256 / 256 % 256) * 256 + v / 256 % 256) * 256 + v % 256 ≡ v
-four-back v h = omega arith
-
--- a property that says bytes, as many as it has, which are a mention
+-- a property that says bytes, as many as it has, which are a mention and keep the layout
 abbrev pub Said : ℕ → Property → Type 0
-Said stride v = (b : List ℕ) × (v ≡ says b) × (length b ≡ stride) × (mentioned b ≡ true)
+Said stride v = (b : List ℕ) × (v ≡ says b) × (length b ≡ stride) × (mentioned b ≡ true) × (breaks b ≡ false)
 
 -- a slice that a record can hold and that mentions every property
 pub record Holdable (stride : ℕ) (s : Slice) : Type 0 where
@@ -43,10 +45,10 @@ pub record Holdable (stride : ℕ) (s : Slice) : Type 0 where
 
 module _ (stride : ℕ) where
   part-length : (v : Property) → Said stride v → length (partFor stride v) ≡ stride
-  part-length v (b, e, l, m) = rw e l
+  part-length v (b, e, l, m, _) = rw e l
 
   part-back : (v : Property) → Said stride v → propertyOf (partFor stride v) ≡ v
-  part-back v (b, e, l, m) = rw (e, m)
+  part-back v (b, e, l, m, _) = rw (e, m)
 
   parts-back : (vs : List Property) → ((v : Property) → In v vs → Said stride v) → map propertyOf (map (partFor stride) vs) ≡ vs
   parts-back [] h = refl
@@ -77,6 +79,10 @@ module _ (stride : ℕ) where
         ap (pieces stride 8) (sym (append-nil (joined parts)))
         ∙ ap (λ (n : ℕ). pieces stride n (joined parts ++ [])) (sym parts-eight)
         ∙ pieces-joined stride parts [] sized
+
+    pub parts-whole : any breaks parts ≡ false
+    parts-whole = none-any breaks parts (λ l m. let (v, n, e) = map-in (partFor stride) (s .properties) l m in
+        let (b, is, _, _, w) = h .said v n in rw (e, is) w)
 
     pub view-laid : viewOf stride (recordFor stride s) ≡ s
     unfolding recordFor viewOf

@@ -3,41 +3,28 @@
 pub mod OneAnswer
 -- the derived table read back answers as the original does, and deriving again gives the same table (demand 2)
 pub mod ReadBack
--- no derived record fails the slice check: 24 is never returned
+-- the derived records say the derived baselines, rise and pass the slice check: 24 is never returned
 pub mod Passes
 -- what a derivation returns is told apart by its numbers
 pub mod Replies
--- the derived table is sound, has the feature of the original, and holds the derived baselines
+-- the derivation, one test after the other; the derived table is sound, has the feature of the original, and holds the derived
+-- baselines
 pub mod DerivedTable
--- the derived records say the derived baselines, and rise
-pub mod Right
--- the derivation, one test after the other
-pub mod Decided
 -- the records that are drawn, and the lines that they are drawn from
 pub mod Drawn
 -- one turn of a sweep, by the times that it carries
 pub mod Going
 -- the walk from one change instant to the next, and the records of those behind it
 pub mod Walked
--- what a sweep tells from times alone is what it tells of the slices
-pub mod Told
 -- a sweep over the events of a table tells the permanent state at each change instant
 pub mod Swept
 -- what the events of a sound table are, in order
 pub mod Events
--- a record's own bytes say the state that it starts
-pub mod Based
--- both lines of a sweep behind one more slice
+-- what a sweep tells from times alone, and both of its lines behind one more slice
 pub mod Lines
 -- the record of a line, and what writing into it makes of the state that it says
 pub mod Carried
--- what the answer about a state tells of the standing there
-pub mod Standings
 -- a slice written as a record is read back as that slice
 pub mod Laid
--- the bytes of a derived table: its header, and its records one by one
-pub mod Pasted
--- one turn of each loop that notes the events of a table
+-- every change instant of a table is below "none"; one turn of each loop that notes the events of a table
 pub mod Noted
--- every change instant of a table is below "none"
-pub mod Changes

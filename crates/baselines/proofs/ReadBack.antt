@@ -9,6 +9,7 @@ use lib.ListN.{length}
 use borrow.Author.Tests.{ne-eqb}
 use Rattle.laws.specs.Lists.{any}
 use Rattle.laws.proofs.Tests.{contrary}
+use Rattle.laws.proofs.Replies.{refusal-apart, refusal-tells}
 use Rattle.octets.specs.Bytes.{Bytes}
 use Rattle.numbers.specs.Numbers.{noInstant, isNone}
 use Rattle.numbers.specs.declared.Instant.{Instant}
@@ -20,23 +21,33 @@ use Rattle.table.specs.Rules.{fails, checkTable}
 use Rattle.table.specs.Deliveries.{holding}
 use Rattle.table.specs.declared.check.Sides.the-variants.{Permanent}
 use Rattle.history.specs.State.{State}
-use Rattle.history.specs.Permanent.{Standing, known, permanentAt}
+use Rattle.history.specs.Permanent.{Standing, refuses, known, permanentAt}
 use Rattle.history.specs.Derived.{hasTwo, twoAnchors, derivedBaselines, asWritten, readBack}
 use Rattle.history.proofs.ReadBack.{read-back, no-two}
 use Rattle.history.proofs.Again.{derived-two, derived-again}
 use Rattle.state.specs.Written.{nilUnknown, propertyBytes, stateRecord}
-use Rattle.state.specs.Asking.{slicesOf, permanentStateOf, afterState, recordOf, outcomeOf, refusedOutcome}
+use Rattle.state.specs.Asking.{slicesOf, permanentStateOf, afterState, recordOf, outcomeOf, outcomeReply, refusedOutcome}
 use Rattle.state.specs.declared.answer.Outcome.the-variants as outcome
 use Rattle.state.proofs.Stages.{state-left, left-asked}
 use Rattle.baselines.specs.Laid.{recordFor}
 use Rattle.baselines.specs.Deriving.{derivedRecords, derivationOf, afterDeriving}
 use Rattle.baselines.specs.declared.derivation.Derivation.the-variants.{Derived}
-use Rattle.baselines.proofs.Changes.{slices-bounded}
-use Rattle.baselines.proofs.Pasted.{filled-by}
-use Rattle.baselines.proofs.Right.{timely}
-use Rattle.baselines.proofs.Standings.{told-refused, told-written}
+use Rattle.baselines.proofs.Noted.{slices-bounded}
+use Rattle.baselines.proofs.Laid.{filled-by}
+use Rattle.baselines.proofs.Passes.{timely}
 use Rattle.baselines.proofs.DerivedTable.{Deriving, derived-told, told-derived, derived, derived-sound, derived-feature}
 use Rattle.baselines.proofs.DerivedTable.{derived-slices}
+
+-- what the answer to the question for a state tells of the standing there
+told-refused : (v : Standing) (f : Refusal) → outcomeOf v ≡ outcome.Refused f → v ≡ refuses (f .number)
+unfolding outcomeReply
+told-refused (refuses n) f e = ap refuses (refusal-tells n (f .number) (ap outcomeReply e))
+told-refused (known s) f e = absurd (refusal-apart (f .number) 1 0 (sym (ap outcomeReply e)))
+
+told-written : (v : Standing) → outcomeOf v ≡ outcome.Written → (s : State) × (v ≡ known s)
+unfolding outcomeReply
+told-written (refuses n) e = absurd (refusal-apart n 1 0 (ap outcomeReply e))
+told-written (known s) e = (s, refl)
 
 -- a state as it is written has the record of the state
 record-back : (stride : ℕ) (t : Instant) (s : State)

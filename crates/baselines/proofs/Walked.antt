@@ -53,7 +53,7 @@ module _ (p : List ℕ) where
         }
 
     -- ---- one turn, where the walk has not ended
-    module _ (t : Instant) (done : List (List ℕ)) (w : Walked t done) (go : isNone t ≡ false) where
+    module _ {t : Instant} {done : List (List ℕ)} (w : Walked t done) (go : isNone t ≡ false) where
       ahead : later (slicesOf p) (w .since) ≡ t ∷ later (slicesOf p) (justAfter t)
       ahead =
           walk-next (slicesOf p) (w .since) (rw (← w .here) go)
@@ -68,7 +68,7 @@ module _ (p : List ℕ) where
           ⊎-elim (λ e. absurd (none-false t go (ap (λ i. i .0) (w .here ∙ e))))
           (λ (m, _). rw (w .here) m) (later-next (slicesOf p) (w .since))
 
-      module _ (end : Instant) (e : end ≡ nextOf (later (slicesOf p) (justAfter t))) where
+      module _ {end : Instant} (e : end ≡ nextOf (later (slicesOf p) (justAfter t))) where
         pub walked-on : (t .0 + 1 ≤ end .0) × (end .0 ≤ noInstant)
         walked-on = (
           rw e (walk-on (slicesOf p) (justAfter t) (omega (tests, walked-given))),
@@ -114,9 +114,9 @@ module _ (p : List ℕ) where
             one = rw (v, ← e)
 
   -- ---- the end of the walk
-  pub walked-all : (t : Instant) (done : List (List ℕ)) → Walked t done → isNone t ≡ true
+  pub walked-all : {t : Instant} {done : List (List ℕ)} → Walked t done → isNone t ≡ true
       → (derivedRecords p ≡ done) × (twoAnchors (slicesOf p) ≡ false)
-  walked-all t done w e =
+  walked-all {t} {done} w e =
       let none : later (slicesOf p) (w .since) ≡ [] = walk-end (slicesOf p) (w .since) (rw (← w .here) e) in (
         w .all ∙ ap (λ (l : List Instant). done ++ drawnFrom (suc (length done)) l) none ∙ append-nil done,
         w .two ∙ ap (any (λ u. hasTwo (permanentAt u (slicesOf p)))) none,

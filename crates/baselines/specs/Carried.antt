@@ -43,6 +43,10 @@ lineSize stride = recordSize stride + stride
 abbrev pub recordOf : ℕ → List ℕ → List ℕ
 recordOf stride l = take (recordSize stride) l
 
+-- both lines have their size
+abbrev pub Lined : ℕ → List ℕ → List ℕ → Type 0
+Lined stride base line = (length base ≡ lineSize stride) × (length line ≡ lineSize stride)
+
 -- where a line says a state, the other one says what becomes of it
 abbrev pub Turns : ℕ → (State → State) → List ℕ → List ℕ → Type 0
 Turns stride turn before after =
@@ -68,9 +72,14 @@ pub record Lines (stride : ℕ) (v : Seen) (t : Instant) (base line : List ℕ) 
 abbrev pub seenWith : Seen → Slice → Seen
 seenWith v x = cond (eqb (x .kind) baseline) (begun v x) (changed v x)
 
--- the record of a slice of t takes both lines on
+-- the record of a slice of t that counts; that of a BASELINE says the state that it starts
+pub record Comes (stride : ℕ) (r : List ℕ) (t : Instant) : Type 0 where
+  pub begins : viewOf stride r .period .begin ≡ t
+  pub counted : isCounted (viewOf stride r) ≡ true
+  pub own : counts baseline (viewOf stride r) ≡ true → Carries stride (started (viewOf stride r)) r
+
+-- it takes both lines on
 abbrev pub GoesOn : ℕ → Sweep → List ℕ → Instant → List ℕ → List ℕ → List ℕ → List ℕ → Type 0
 GoesOn stride s r t base line base' line' =
-    (v : Seen) → s ≡ timesOf v → viewOf stride r .period .begin ≡ t → isCounted (viewOf stride r) ≡ true
-    → (counts baseline (viewOf stride r) ≡ true → Carries stride (started (viewOf stride r)) r)
-    → Lines stride v t base line → Lines stride (seenWith v (viewOf stride r)) t base' line'
+    (v : Seen) → s ≡ timesOf v → Comes stride r t → Lines stride v t base line
+    → Lines stride (seenWith v (viewOf stride r)) t base' line'

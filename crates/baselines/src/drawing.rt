@@ -9,11 +9,11 @@ ghost use Rattle.slice.specs.Record.{recordSize};
 ghost use Rattle.table.specs.Header.{strideOf};
 ghost use Rattle.history.specs.State.{State};
 ghost use Rattle.baselines.specs.Sweeping.{passedWith};
-ghost use Rattle.baselines.specs.Carried.{Carries, lineSize, recordOf, unknownState, GoesOn};
+ghost use Rattle.baselines.specs.Carried.{Carries, lineSize, recordOf, Lined, unknownState, GoesOn};
 ghost use Rattle.baselines.specs.Steps.{Sweepable, FitsIn, drawnRecord, DrawsKnown};
 ghost use Rattle.baselines.specs.Deriving.{derivedRecords};
 use crate::counting::head;
-use crate::line::apply;
+use crate::line::apply_where;
 use crate::line::put_unknown;
 use crate::sweeping::Sweep;
 use crate::sweeping::begin_base;
@@ -78,8 +78,7 @@ fn draw_known(
     t: Instant,
     end: Instant,
 )
-    requires { ⌜ (length (now «record») ≡ recordSize stride)
-        × ((length (now base) ≡ lineSize stride) × (length (now line) ≡ lineSize stride)) ⌝ }
+    requires { ⌜ (length (now «record») ≡ recordSize stride) × Lined stride (now base) (now line) ⌝ }
     ensures { λ _. ⌜ DrawsKnown stride s t (now (base .entry)) (now (line .entry)) (sequence .0) end (now («record» .exit)) ⌝ }
 {
     if is_based(s, t) {
@@ -100,9 +99,8 @@ fn carry(
     s: Sweep,
     t: Instant,
 ) -> Sweep
-    requires { ⌜ (length (now base) ≡ lineSize stride)
-        × ((length (now line) ≡ lineSize stride)
-        × ((length (now «record») ≡ recordSize stride) × (s .openings ≤ 512))) ⌝ }
+    requires { ⌜ Lined stride (now base) (now line)
+        × ((length (now «record») ≡ recordSize stride) × (s .openings ≤ 512)) ⌝ }
     ensures sweep { λ r. ⌜ r ≡ passedWith s (now («record» .entry)) t ⌝ }
     ensures lines { λ _.
         ⌜ GoesOn stride s (now («record» .entry)) t (now (base .entry)) (now (line .entry)) (now (base .exit))
@@ -113,14 +111,10 @@ fn carry(
         return begin_base(s, record, t);
     }
     let begin = s.begin;
-    if is_based(s, t) & !begin.is(t) {
-        apply(base, record, stride);
-    }
+    apply_where(is_based(s, t) & !begin.is(t), base, record, stride);
     let life = life_of(record);
     let born = life.begin;
-    if (0 < s.openings) | !born.is_none() {
-        apply(line, record, stride);
-    }
+    apply_where((0 < s.openings) | !born.is_none(), line, record, stride);
     change(s, record, t)
 }
 
@@ -135,9 +129,8 @@ fn draw_events(
 )
     requires sound { ⌜ Sweepable (now permanent) (now events) ⌝ }
     requires room { ⌜ FitsIn (now permanent) (now output) ⌝ }
-    requires lines { ⌜ (length (now base) ≡ lineSize (strideOf (now permanent)))
-        × ((length (now line) ≡ lineSize (strideOf (now permanent)))
-        × Carries (strideOf (now permanent)) unknownState (recordOf (strideOf (now permanent)) (now line))) ⌝ }
+    requires lines { ⌜ Lined (strideOf (now permanent)) (now base) (now line)
+        × Carries (strideOf (now permanent)) unknownState (recordOf (strideOf (now permanent)) (now line)) ⌝ }
     ensures { λ _. ⌜ now (output .exit) ≡ pasted (now (output .entry)) 32 (joined (derivedRecords (now (permanent .entry)))) ⌝ }
 {
     let stride = stride_of(permanent);
@@ -181,6 +174,6 @@ pub(crate) fn draw_all(permanent: &[u8], events: &[u64], output: &mut [u8])
     let mut lines = [0u8; 320];
     let base = &mut bases[0..size + stride];
     let line = &mut lines[0..size + stride];
-    put_unknown(&mut line[0..size], stride);
+    put_unknown(line, stride);
     draw_events(permanent, events, base, line, output);
 }

@@ -7,7 +7,7 @@ ghost use Rattle.octets.specs.Writing.{bytesOf, pasted};
 ghost use Rattle.numbers.specs.Numbers.{isNone};
 ghost use Rattle.slice.specs.Record.{recordSize, viewOf};
 ghost use Rattle.history.specs.State.{applied};
-ghost use Rattle.baselines.specs.Carried.{Carries, lineSize, Turns, mentionsOver, unknownState};
+ghost use Rattle.baselines.specs.Carried.{Carries, lineSize, recordOf, Turns, mentionsOver, unknownState};
 use numbers::Instant;
 use octets::byte;
 use octets::put;
@@ -83,7 +83,7 @@ fn put_mentions(line: &mut [u8], delta: &[u8], stride: usize)
 }
 
 // Makes the line of a state that of the state with a PERMDELTA applied.
-pub(crate) fn apply(line: &mut [u8], delta: &[u8], stride: usize)
+fn apply(line: &mut [u8], delta: &[u8], stride: usize)
     requires { ⌜ (length (now delta) ≡ recordSize stride) × (length (now line) ≡ lineSize stride) ⌝ }
     ensures { λ _.
         ⌜ Turns stride (λ s. applied s (viewOf stride (now (delta .entry)))) (now (line .entry)) (now (line .exit)) ⌝ }
@@ -94,16 +94,28 @@ pub(crate) fn apply(line: &mut [u8], delta: &[u8], stride: usize)
     put_time(line, 20, life.end);
 }
 
-// Makes a record of zeros that of a state of which nothing is known: no life time, eight properties that
-// nothing mentions.
-pub(crate) fn put_unknown(record: &mut [u8], stride: usize)
-    requires { ⌜ (now «record» ≡ replicate (recordSize stride) 0) × (2 ≤ stride) ⌝ }
-    ensures { λ _. ⌜ Carries stride unknownState (now («record» .exit)) ⌝ }
+// The same where the PERMDELTA goes to the line, and else nothing.
+pub(crate) fn apply_where(goes: bool, line: &mut [u8], delta: &[u8], stride: usize)
+    requires { ⌜ (length (now delta) ≡ recordSize stride) × (length (now line) ≡ lineSize stride) ⌝ }
+    ensures { λ _.
+        ⌜ Turns stride (λ s. cond goes (applied s (viewOf stride (now (delta .entry)))) s) (now (line .entry)) (now (line .exit)) ⌝ }
 {
-    put(record, 16, &[255, 255, 255, 255, 255, 255, 255, 255]);
+    if !goes {
+        return;
+    }
+    apply(line, delta, stride);
+}
+
+// Makes a line of zeros that of a state of which nothing is known: no life time, eight properties that
+// nothing mentions.
+pub(crate) fn put_unknown(line: &mut [u8], stride: usize)
+    requires { ⌜ (now line ≡ replicate (lineSize stride) 0) × (2 ≤ stride) ⌝ }
+    ensures { λ _. ⌜ Carries stride unknownState (recordOf stride (now (line .exit))) ⌝ }
+{
+    put(line, 16, &[255, 255, 255, 255, 255, 255, 255, 255]);
     let mut n = 0;
     while n < 8 {
-        put(record, 32 + n * stride, &[1, 4]);
+        put(line, 32 + n * stride, &[1, 4]);
         n += 1;
     }
 }

@@ -48,7 +48,7 @@ fn note_ends(permanent: &[u8], events: &mut [u64], from: usize) -> usize
     requires { ⌜ (checkTable Permanent (now permanent) ≡ Sound) × ((length (now events) ≡ 512) × (from ≤ 256)) ⌝ }
     ensures few { λ r. ⌜ r ≤ 512 ⌝ }
     ensures list { λ r.
-        ⌜ take r (now (events .exit)) ≡ take from (now (events .entry)) ++ lifeEnds (slicesOf (now (permanent .entry))) ⌝ }
+        ⌜ take r (now (events .exit)) ≡ take from (now (events .entry)) ++ lifeEnds 0 (slicesOf (now (permanent .entry))) ⌝ }
 {
     let size = record_size(permanent);
     let count = count_of(permanent) as usize;

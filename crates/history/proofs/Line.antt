@@ -1,15 +1,16 @@
 -- The line of slices that make the permanent state: it is made of slices that are there, the state is what they give in their
 -- turn, and each property of a state is a property of one of them. Assumes nothing.
-use Prim.Native.Nat.{ℕ}
+use Prim.Native.Nat.{ℕ, _<_}
 use mathlib.Core.Path.{_≡_, refl}
 use mathlib.Core.List.{List, [], _∷_}
-use mathlib.Core.Bool.{Bool, true, false, cond, true≢false, _&&_}
+use mathlib.Core.Bool.{Bool, true, false, cond, true≢false, _&&_, and-false}
 use mathlib.Core.Logic.{_⊎_, inl, inr, ⊎-elim}
+use lib.Dec.{eqb, leb}
 use Rattle.laws.specs.Lists.{kept}
 use Rattle.laws.specs.Keyed.{In}
-use Rattle.laws.proofs.Tests.{and-both}
+use Rattle.laws.proofs.Tests.{and-both, tests}
 use Rattle.laws.proofs.Lists.{kept-in}
-use Rattle.numbers.specs.Numbers.{given, atMost}
+use Rattle.numbers.specs.Numbers.{given, atMost, noInstant, isNone, before}
 use Rattle.numbers.specs.declared.Instant.{Instant}
 use Rattle.slice.specs.Record.{baseline, permdelta, Property, unmentioned, says, Slice}
 use Rattle.history.specs.Counted.{counts, holds}
@@ -109,3 +110,17 @@ applied-within (d ∷ ds) s x m =
 pub line-within : (a : Slice) (ds : List Slice) (x : Property) → In x (appliedAll (started a) ds .properties)
     → (d : Slice) × In d (a ∷ ds) × In x (d .properties)
 line-within a ds x m = ⊎-elim (λ p. (a, inl refl, p)) (λ (d, n, q). (d, inr n, q)) (applied-within ds (started a) x m)
+
+-- a life end that is none or later does not withdraw
+pub unless-known : (t : Instant) (s : State) → before t (s .life .end) ≡ true → unlessWithdrawn t s ≡ known s
+unfolding unlessWithdrawn withdrawn before atMost
+unless-known t s h =
+    let b : leb (s .life .end .0) (t .0) ≡ false = omega tests in
+    rw (b, and-false (given (s .life .end)))
+
+pub unless-gone : (t : Instant) (s : State) → t .0 < noInstant → before t (s .life .end) ≡ false → unlessWithdrawn t s ≡ refuses 22
+unfolding unlessWithdrawn withdrawn before atMost isNone
+unless-gone t s l h =
+    let b : leb (s .life .end .0) (t .0) ≡ true = omega tests in
+    let n : eqb (s .life .end .0) noInstant ≡ false = omega tests in
+    rw (n, b)

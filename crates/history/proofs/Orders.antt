@@ -2,9 +2,9 @@
 use Prim.Native.Nat.{ℕ}
 use mathlib.Core.Path.{_≡_, sym, ap, _∙_}
 use mathlib.Core.List.{List}
-use mathlib.Core.Bool.{true, not}
+use mathlib.Core.Bool.{true, not, false}
 use lib.Dec.{eqb}
-use borrow.Author.Tests.{eqb-true, eq-eqb}
+use borrow.Author.Tests.{eqb-true, eq-eqb, not-true}
 use Rattle.laws.specs.Keyed.{In, Rising}
 use Rattle.laws.proofs.Tests.{and-both}
 use Rattle.laws.proofs.Orders.{lex-irrefl, lex-trans, lex-total}
@@ -39,6 +39,10 @@ turn-order = record {
 pub counts-kind : (kind : ℕ) (s : Slice) → counts kind s ≡ true → s .kind ≡ kind
 unfolding counts
 counts-kind kind s h = eqb-true (s .kind) kind (and-both (eqb (s .kind) kind) (not (s .cancelled)) h .0)
+
+pub uncancelled : (kind : ℕ) (s : Slice) → counts kind s ≡ true → s .cancelled ≡ false
+unfolding counts
+uncancelled kind s h = not-true (s .cancelled) (and-both (eqb (s .kind) kind) (not (s .cancelled)) h .1)
 
 -- two counted slices of one kind and one sequence number are one
 pub counted-one : (kind : ℕ) (slices : List Slice) → Rising sliceKey keyLess sameKey slices → (a b : Slice) → In a slices

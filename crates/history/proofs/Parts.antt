@@ -82,11 +82,11 @@ abbrev pub saidIn : ℕ → Option Slice → Property
 saidIn p none = unmentioned
 saidIn p (some d) = getD (d .properties) p unmentioned
 
-newer-unmentioned : (v : Property) → newer v unmentioned ≡ v
+pub newer-unmentioned : (v : Property) → newer v unmentioned ≡ v
 newer-unmentioned unmentioned = refl
 newer-unmentioned (says v) = refl
 
-over-at : (news olds : List Property) (p : ℕ)
+pub over-at : (news olds : List Property) (p : ℕ)
     → getD (over news olds) p unmentioned ≡ newer (getD news p unmentioned) (getD olds p unmentioned)
 over-at [] olds p = refl
 over-at (n ∷ news) [] p = sym (newer-unmentioned (getD (n ∷ news) p unmentioned))
@@ -156,7 +156,7 @@ module _ (a : Slice) (ds : List Slice) where
   line-end = line-time (λ l. l .end) (λ s d. refl) a ds
 
 -- ---- how many properties
-over-length : (news olds : List Property) → length news ≡ length olds → length (over news olds) ≡ length olds
+pub over-length : (news olds : List Property) → length news ≡ length olds → length (over news olds) ≡ length olds
 over-length [] olds e = refl
 over-length (n ∷ news) [] e = e
 over-length (n ∷ news) (o ∷ olds) e = ap suc (over-length news olds (omega arith))

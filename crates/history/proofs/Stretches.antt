@@ -1,19 +1,23 @@
 -- The stretches from one change instant to the next, and the BASELINEs that are made of them. Assumes nothing.
 use Prim.Native.Nat.{ℕ, suc, _≤_, _<_}
-use mathlib.Core.Path.{_≡_, refl, ap}
-use mathlib.Core.List.{List, _∷_}
+use mathlib.Core.Path.{_≡_, refl, ap, sym}
+use mathlib.Core.List.{List, _∷_, []}
 use mathlib.Core.Bool.{true}
 use mathlib.Core.Logic.{_⊎_, inl, inr, ⊎-elim}
-use Rattle.laws.specs.Keyed.{In}
+use native.Mathlib.Omega.{arith}
+use lib.ListN.{length}
+use Rattle.laws.specs.Keyed.{In, Rising}
 use Rattle.laws.proofs.Tests.{tests}
-use Rattle.numbers.specs.Numbers.{noInstant, none, isNone, given, before}
+use Rattle.laws.proofs.Orders.{true-lex}
+use Rattle.numbers.specs.Numbers.{noInstant, none, isNone, given, before, lowerSequence}
 use Rattle.numbers.specs.declared.Instant.{Instant}
-use Rattle.slice.specs.Record.{Slice}
+use Rattle.slice.specs.Record.{Slice, baseline, keyLess, sameKey}
 use Rattle.history.specs.Permanent.{Standing, refuses, known, permanentAt}
 use Rattle.history.specs.Changes.{nextOf}
 use Rattle.history.specs.Derived.{Stretch, stretch, stretchesFrom, baselineOf, numberedFrom}
 use Rattle.history.proofs.Selection.{append-in}
 use Rattle.history.proofs.Changes.{Risen, next-in, next-least, next-none}
+use Rattle.history.specs.Counted.{sliceKey}
 
 module _ (slices : List Slice) where
   -- each begins at one of the instants, ends at one or never, and has the state at its begin
@@ -68,3 +72,23 @@ module _ (unknown : List ℕ) where
       → (k : ℕ) × (s : Stretch) × In s l × (b ≡ baselineOf unknown k s)
   numbered-in n (s ∷ l) b (inl e) = (n, s, inl refl, e)
   numbered-in n (s ∷ l) b (inr m) = let (k, x, i, e) = numbered-in (suc n) l b m in (k, x, inr i, e)
+
+  pub numbered-length : (n : ℕ) (l : List Stretch) → length (numberedFrom unknown n l) ≡ length l
+  numbered-length n [] = refl
+  numbered-length n (s ∷ l) = ap suc (numbered-length (suc n) l)
+
+  -- they rise by their sequence numbers
+  numbered-above : (n : ℕ) (l : List Stretch) (b : Slice) → In b (numberedFrom unknown n l)
+      → (b .kind ≡ baseline) × (n ≤ b .sequence .0)
+  unfolding baselineOf
+  numbered-above n (s ∷ l) b (inl e) = (ap (λ x. x .kind) e, omega (arith, ap (λ x. x .sequence .0) e))
+  numbered-above n (s ∷ l) b (inr m) = let h = numbered-above (suc n) l b m in (h .0, omega (arith, h .1))
+
+  pub numbered-rising : (n : ℕ) (l : List Stretch) → Rising sliceKey keyLess sameKey (numberedFrom unknown n l)
+  unfolding baselineOf keyLess lowerSequence
+  numbered-rising n [] = tt
+  numbered-rising n (s ∷ l) = (
+    λ y m. let h = numbered-above (suc n) l y m in
+        true-lex baseline n (y .kind) (y .sequence .0) (inr (sym (h .0), omega (arith, h .1))),
+    numbered-rising (suc n) l,
+  )

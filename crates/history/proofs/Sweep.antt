@@ -36,6 +36,19 @@ use Rattle.history.proofs.Periods.{LastBegun, until-open, until-fixed}
 use Rattle.history.proofs.SweepLines.{by, line-told}
 
 -- ---- one behind another
+-- one that begins later comes behind, and so does one of a higher key that begins with it
+pub behind-later : (d e : Slice) → e .period .begin .0 < d .period .begin .0 → comesBehind d e ≡ true
+unfolding comesBehind lexLess before
+behind-later d e h = let b : ltb (e .period .begin .0) (d .period .begin .0) ≡ true = omega tests in rw b
+
+pub behind-level : (d e : Slice) → e .period .begin .0 ≡ d .period .begin .0 → keyLess (sliceKey e) (sliceKey d) ≡ true
+    → comesBehind d e ≡ true
+unfolding comesBehind lexLess before sameInstant
+behind-level d e h k =
+    let b : ltb (e .period .begin .0) (d .period .begin .0) ≡ false = omega tests in
+    let s : eqb (e .period .begin .0) (d .period .begin .0) ≡ true = omega tests in
+    rw (b, s, k)
+
 behind-begin : (x y : Slice) → comesBehind x y ≡ true → y .period .begin .0 ≤ x .period .begin .0
 unfolding comesBehind lexLess before sameInstant
 behind-begin x y h =

@@ -4,7 +4,7 @@ use mathlib.Core.Path.{_≡_, refl, sym, ap, _∙_}
 use mathlib.Core.Bool.{false}
 use mathlib.Core.List.{List}
 use native.Mathlib.Omega.{arith}
-use lib.ListN.{take}
+use lib.ListN.{length, take}
 use Rattle.laws.specs.Lists.{any}
 use Rattle.events.specs.Order.{inOrder}
 use Rattle.slice.specs.Record.{permanent}
@@ -13,12 +13,11 @@ use Rattle.slice.proofs.Replies.{checked-told}
 use Rattle.table.specs.Header.{strideOf}
 use Rattle.table.specs.Rules.{fails, checkTable}
 use Rattle.table.specs.declared.check.Sides.the-variants as sides
+use Rattle.history.specs.Derived.{twoAnchors}
 use Rattle.state.specs.Asking.{slicesOf}
 use Rattle.baselines.specs.Noting.{noted}
 use Rattle.baselines.specs.Deriving.{derivedRecords, derivationReply}
-use Rattle.baselines.specs.Steps.{countedOf}
-use Rattle.baselines.specs.declared.counting.Counted.{Counted}
-use Rattle.baselines.proofs.Decided.{told-two, told-records, table-refused, two-refused, many-refused, few-left}
+use Rattle.baselines.proofs.DerivedTable.{told-two, told-records, table-refused, two-refused, many-refused, few-left}
 use Rattle.baselines.proofs.Passes.{derived-pass}
 use borrow.Author.Needs.{needs}
 use Rattle.baselines.proofs.derivation.derive.Statement.{statement}
@@ -49,23 +48,23 @@ sorted s =
 abbrev swept : tie.After-count-all → tie.After-sort
 swept d = d .before .before .before .before
 
-told : (c : tie.After-count) → countedOf (table (checked (swept (c .before .before)))) ≡ Counted.Records (c .count .given .0 .0)
-told c = sym (c .before .before .count-all .ensures) ∙ c .count .given .1
+told : (c : tie.After-count) → let p = table (checked (swept (c .before .before))) in
+    (twoAnchors (slicesOf p) ≡ false) × (c .count .given .0 .0 ≡ length (derivedRecords p))
+told c = told-records _ _ (sym (c .before .before .count-all .ensures) ∙ c .count .given .1)
 
 returns-2 : tie.Need-returns-2
 returns-2 c =
     let k = c .before .before .before in
     let d = checked (swept (k .before .before)) in
-    let t = told-records _ _ (told k) in
-    (ap derivationReply (many-refused _ _ (sound d) (t .0) (pass d) (omega (arith, t .1, c .before .if1 .taken))), refl)
+    let (one, n) = told k in
+    (ap derivationReply (many-refused _ _ (sound d) one (pass d) (omega (arith, c .before .if1 .taken))), refl)
 
 hand-over-requires : tie.Need-hand-over-requires
 hand-over-requires c κs =
     let e = c .before .before in
     let k = e .before .before in
     let s = swept (k .before .before) in
-    let t = told-records _ _ (told k) in
-    ((sound (checked s), sorted s, t .0), (e .if1 .left, t .1))
+    ((sound (checked s), sorted s, told k .0), (e .if1 .left, told k .1))
 
 returns-3 : tie.Need-returns-3
 returns-3 c =
@@ -82,11 +81,9 @@ returns-4 c =
     let e = h .before .before .before in
     let k = e .before .before in
     let d = checked (swept (k .before .before)) in
-    let t = told-records _ _ (told k) in (
-      ap derivationReply
-          (h .hand-over .ensures .0 ∙ few-left _ _ (sound d) (t .0) (pass d) (omega (arith, t .1, e .if1 .left))),
-      h .hand-over .ensures
-          .1,
+    let (one, n) = told k in (
+      ap derivationReply (h .hand-over .ensures .0 ∙ few-left _ _ (sound d) one (pass d) (omega (arith, e .if1 .left))),
+      h .hand-over .ensures .1,
     )
 
 pub derive-spec : {M : Type 1} → statement M

@@ -14,7 +14,7 @@ use Rattle.table.proofs.Sound.{sound-table}
 use Rattle.baselines.specs.Deriving.{derivedRecords}
 use Rattle.baselines.specs.Steps.{handedOf}
 use Rattle.baselines.specs.declared.derivation.Derivation.the-variants.{Derived}
-use Rattle.baselines.proofs.Pasted.{feature-long, handed}
+use Rattle.baselines.proofs.DerivedTable.{feature-long, handed}
 use Rattle.baselines.proofs.Passes.{derived-long}
 use borrow.Author.Needs.{needs}
 use Rattle.baselines.proofs.derivation.hand_over.Statement.{statement}

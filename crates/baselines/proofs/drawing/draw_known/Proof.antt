@@ -7,7 +7,7 @@ use Rattle.history.specs.Sweep.{Seen}
 use Rattle.baselines.specs.Sweeping.{timesOf, isKnown}
 use Rattle.baselines.specs.Carried.{Carries, recordOf}
 use Rattle.baselines.specs.declared.sweeping.Sweep.{Sweep}
-use Rattle.baselines.proofs.Told.{known-line}
+use Rattle.baselines.proofs.Lines.{known-line}
 use borrow.Author.Needs.{needs}
 use Rattle.baselines.proofs.drawing.draw_known.Statement.{statement}
 use Rattle.baselines.proofs.drawing.draw_known.Tie as tie

@@ -12,18 +12,18 @@ use Rattle.octets.specs.Writing.{pasted}
 use Rattle.slice.specs.Record.{recordSize, viewOf}
 use Rattle.history.specs.State.{State}
 use Rattle.state.proofs.Slices.{propertyAt, view-eight, view-sized}
-use Rattle.baselines.specs.Carried.{Carries, lineSize, recordOf}
-use Rattle.baselines.proofs.Carried.{partly, partly-all, carry-skip, carry-put, view-skips, view-says, take-behind}
-use Rattle.baselines.proofs.Carried.{take-property}
+use Rattle.baselines.specs.Carried.{Carries, lineSize, recordOf, mentionsOver}
+use Rattle.baselines.proofs.Carried.{partly, partly-none, partly-skip, partly-put, partly-all, view-skips, view-says}
 use borrow.Author.Needs.{needs}
+use Rattle.octets.proofs.Writing.{take-pasted, take-behind}
 use Rattle.baselines.proofs.line.put_mentions.Statement.{statement}
 use Rattle.baselines.proofs.line.put_mentions.Tie as tie
 
 abbrev Inv-loop : tie.InvT-loop
 Inv-loop line₀ delta stride n₀ line n =
     (n ≤ 8) × ((length line ≡ length line₀)
-    × ((s : State) → Carries stride s (recordOf stride line₀)
-    → Carries stride (partly stride n s (viewOf stride delta)) (recordOf stride line)))
+    × ((s : State) (c : Carries stride s (recordOf stride line₀))
+    → recordOf stride line ≡ partly stride (viewOf stride delta) s (recordOf stride line₀) c n))
 
 abbrev μ-loop : tie.MeasureT-loop
 μ-loop line₀ delta stride n₀ line n = 8 - n
@@ -79,23 +79,28 @@ module _ (w : tie.After-copy Inv-loop μ-loop) where
   goes : (to : ℕ) → j .if1 .to ≡ to → recordOf stride (w .copy .last .0) ≡ recordOf stride (pasted (l .loop .line) to bytes)
   goes to e = ap (recordOf stride) (w .copy .ensures ∙ ap (λ (n : ℕ). pasted (l .loop .line) n bytes) e)
 
-  carried : (s : State) → Carries stride s (recordOf stride (start l .args .line .now))
-      → Carries stride (partly stride (suc (l .loop .n)) s (viewOf stride delta)) (recordOf stride (w .copy .last .0))
+  carried : (s : State) (h : Carries stride s (recordOf stride (start l .args .line .now)))
+      → recordOf stride (w .copy .last .0) ≡ partly stride (viewOf stride delta) s _ h (suc (l .loop .n))
   carried s h =
+      let n = l .loop .n in
+      let d = viewOf stride delta in
       let was = l .loop .inv .1 .1 s h in
       let few = k .loop-test .taken in
       let size = start l .pre .0 in
+      let eight = view-eight stride delta in
+      let spoken = view-sized stride delta size in
       ⊎-elim
-      (λ (i, e). subst (Carries stride (partly stride (suc (l .loop .n)) s (viewOf stride delta)))
-      (sym (goes (recordSize stride) (e ∙ size)
-      ∙ take-behind (recordSize stride) (l .loop .line) bytes (omega (arith, bytes-long, long k))))
-      (carry-skip stride (l .loop .n) s (viewOf stride delta) (recordOf stride (l .loop .line)) was
-      (view-skips stride delta (l .loop .n) few size (sym (j .before .byte .ensures) ∙ i .taken))))
-      (λ (i, e). carry-put stride (l .loop .n) s (viewOf stride delta) (recordOf stride (l .loop .line)) was bytes
-      (view-says stride delta (l .loop .n) few size (λ z. i .left (j .before .byte .ensures ∙ z)))
-      few (view-sized stride delta size) (h .sized) (h .eight) _
-      (goes at e
-      ∙ take-property stride (l .loop .line) bytes at (omega (arith, bytes-long, within k, size)) (omega (arith, long k))))
+      (λ (i, e). goes (recordSize stride) (e ∙ size)
+      ∙ take-behind (recordSize stride) (l .loop .line) bytes (omega (arith, bytes-long, long k))
+      ∙ was
+      ∙ sym (partly-skip stride d s _ h eight spoken n
+      (view-skips stride delta n few size (sym (j .before .byte .ensures) ∙ i .taken))))
+      (λ (i, e). goes at e
+      ∙ take-pasted (recordSize stride) (l .loop .line) bytes at (omega (arith, bytes-long, within k, size))
+      (omega (arith, long k))
+      ∙ ap (λ (r : List ℕ). pasted r at bytes) was
+      ∙ partly-put stride d s _ h eight spoken n bytes
+      (view-says stride delta n few size (λ z. i .left (j .before .byte .ensures ∙ z))) few bytes-long)
       (j .if1 .came)
 
 loop-again : tie.Need-loop-again Inv-loop μ-loop
@@ -108,12 +113,12 @@ returns : tie.Need-returns Inv-loop μ-loop
 returns c =
     let l = c .before in
     let s = start l in
+    let delta = s .args .delta .now in
     let stride = s .args .stride in
-    let d = viewOf stride (s .args .delta .now) in
+    let d = viewOf stride delta in
     let e : l .loop .n ≡ 8 = omega arith in
-    λ t h. subst (λ (u : State). Carries stride u (recordOf stride (l .loop .line)))
-    (partly-all stride t d (view-eight stride (s .args .delta .now)) (h .eight))
-    (subst (λ (m : ℕ). Carries stride (partly stride m t d) (recordOf stride (l .loop .line))) e (l .loop .inv .1 .1 t h))
+    λ t h. subst (Carries stride (mentionsOver d t)) (sym (l .loop .inv .1 .1 t h ∙ ap (partly stride d t _ h) e))
+    (partly-all stride d t _ h (view-eight stride delta) (view-sized stride delta (s .pre .0)))
 
 pub put-mentions-spec : {M : Type 1} → statement M
 put-mentions-spec =
@@ -121,7 +126,8 @@ put-mentions-spec =
     (tie.spec
     Inv-loop
     μ-loop
-    (λ c. (omega arith, (refl, λ s k. k)))
+    (λ c. let a = c .before .before .args in
+    (omega arith, (refl, λ s k. partly-none (a .stride) (viewOf (a .stride) (a .delta .now)) s _ k)))
     (λ c. omega (arith, within c))
     (λ c. omega (arith, within c))
     (λ c κs. search needs)

@@ -14,7 +14,7 @@ returns c =
     let e = c .before .before .note-ends .ensures in
     let b = c .before .before .before .before .before .before .note-begins .ensures in
     let p = c .before .before .before .before .before .before .before .before .before .before .args .permanent .now in
-    (e .0, e .1 ∙ ap (λ (l : List ℕ). l ++ lifeEnds (slicesOf p)) (b .1))
+    (e .0, e .1 ∙ ap (λ (l : List ℕ). l ++ lifeEnds 0 (slicesOf p)) (b .1))
 
 pub note-spec : {M : Type 1} → statement M
 note-spec = tie.close (tie.spec (λ c κs. search needs) (λ c κs. search needs) (λ c. search needs) returns)
