@@ -31,7 +31,8 @@ pub enum Derivation {
 // Writes the header of a permanent table of a feature, with a count.
 fn put_header(output: &mut [u8], feature: &[u8], count: u16)
     requires { ⌜ (32 ≤ length (now output)) × (length (now feature) ≡ 16) ⌝ }
-    ensures { λ _. ⌜ now (output .exit) ≡ pasted (now (output .entry)) 0 (headerOf Record.permanent (now (feature .entry)) count) ⌝ }
+    ensures { λ _. ⌜ now (output .exit)
+        ≡ pasted (now (output .entry)) 0 (headerOf Record.permanent (now (feature .entry)) count) ⌝ }
 {
     put(output, 0, &[b'T', b'S', b'L', PERMANENT, 0, 1]);
     put16(output, 6, count);

@@ -98,7 +98,8 @@ fn apply(line: &mut [u8], delta: &[u8], stride: usize)
 pub(crate) fn apply_where(goes: bool, line: &mut [u8], delta: &[u8], stride: usize)
     requires { ⌜ (length (now delta) ≡ recordSize stride) × (length (now line) ≡ lineSize stride) ⌝ }
     ensures { λ _.
-        ⌜ Turns stride (λ s. cond goes (applied s (viewOf stride (now (delta .entry)))) s) (now (line .entry)) (now (line .exit)) ⌝ }
+        ⌜ Turns stride (λ s. cond goes (applied s (viewOf stride (now (delta .entry)))) s) (now (line .entry))
+        (now (line .exit)) ⌝ }
 {
     if !goes {
         return;
