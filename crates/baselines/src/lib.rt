@@ -1,5 +1,7 @@
 // The derived baselines of a feature, as a table of its own. The function answers for every table and
 // buffer, and asks nothing of its caller.
+#![tactic(auto)]
+
 mod counting;
 mod derivation;
 mod drawing;

@@ -1,5 +1,7 @@
 // Reads a permanent table from standard input, and writes the listing of its derived baselines to standard
 // output.
+#![tactic(auto)]
+
 use libc::{STDIN_FILENO, STDOUT_FILENO};
 use text::{Listing, say};
 

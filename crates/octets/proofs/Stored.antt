@@ -30,6 +30,7 @@ bytes_drop (suc n) [] h i = h i
 bytes_drop (suc n) (x ∷ l) h i = bytes_drop n l (λ j. h (suc j)) i
 
 pub bytes_pieces : (size n : ℕ) (l r : List ℕ) → Bytes l → In r (pieces size n l) → Bytes r
+bytes_pieces size zero l r h x'' = elim x'' [ ]
 bytes_pieces size (suc n) l r h (inl e) = subst Bytes (sym e) (bytes_take size l h)
 bytes_pieces size (suc n) l r h (inr m) = bytes_pieces size n (drop size l) r (bytes_drop size l h) m
 

@@ -1,5 +1,7 @@
 // Numbers and runs in lent bytes, the highest byte first. Each function answers for every slice and
 // every place, and none asks anything of its caller.
+#![tactic(auto)]
+
 mod writers;
 
 ghost use Rattle.std.specs.Prelude.{◌≡◌, ◌+◌, ◌*◌, length};

@@ -1,5 +1,7 @@
 // What a property of a record says: one value of ten cases, read from its bytes, and the check of a
 // record's eight properties. Each function answers for every slice, and none asks anything of its caller.
+#![tactic(auto)]
+
 ghost use Rattle.std.specs.Prelude.{◌≡◌, ◌&&◌, ◌≤◌, ◌<◌, ◌+◌, ◌*◌, length, drop, eqb, leb};
 ghost use Rattle.octets.specs.Bytes.{byte_of, le_of, filled};
 ghost use Rattle.property.specs.Value.{is_mention};

@@ -1,5 +1,7 @@
 // A time slice: the fields of its record, its key, period and life, and the slice check. Each function
 // answers for every slice of bytes, and none asks anything of its caller.
+#![tactic(auto)]
+
 mod check;
 mod record;
 pub mod refusals;

@@ -1,6 +1,8 @@
 // What is known of a feature at an instant: its permanent state, its snapshot, one property, and whether
 // anything temporary touches one. Each function answers for every table, instant and buffer, and none asks
 // anything of its caller.
+#![tactic(auto)]
+
 mod anchor;
 mod answer;
 mod front;

@@ -1,5 +1,7 @@
 // The table of a feature: its header and records, rules 1 to 7, the new table and the arrival of a slice.
 // Each function answers for every table and slice of bytes, and none asks anything of its caller.
+#![tactic(auto)]
+
 mod arrival;
 mod check;
 mod create;

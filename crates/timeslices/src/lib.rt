@@ -1,5 +1,7 @@
 // The interface for C: each answer of the library as numbers. Nothing is asked of the caller beyond
 // memory that is there. include/timeslices.h says the same in C.
+#![tactic(auto)]
+
 ghost use Rattle.std.specs.Prelude.{◌≡◌, ◌≤◌};
 ghost use Rattle.laws.specs.Replies.{accepted_as};
 ghost use Rattle.table.specs.Header.{stride_of};

@@ -28,6 +28,8 @@
 // LENGTH and OFFSET have three pairs, that of a record two, INSTANT four. The answers to m and a end with
 // the bytes of the table that changed, those to g and n with those of the record, those to e and y with
 // those of the output.
+#![tactic(auto)]
+
 mod answers;
 mod asking;
 mod lent;

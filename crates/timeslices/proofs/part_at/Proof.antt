@@ -10,5 +10,5 @@ returns c =
     let a = c.before.before.args in
     ap (part_at a.kind a.place) c.stride-of.ensures
 
-pub part-at-spec : {M : Type 1} → statement M
-part-at-spec = tie.close (tie.spec (λ c κs. search rules) returns)
+pub part_at_spec : {M : Type 1} → statement M
+part_at_spec = tie.close (tie.spec (λ c κs. search rules) returns)

@@ -5,5 +5,5 @@ use lib.ListN.{length-replicate}
 use Rattle.vectors.proofs.answer_room.Statement.{statement}
 use Rattle.vectors.proofs.answer_room.Tie as tie
 
-pub answer-room-spec : {M : Type 1} → statement M
-answer-room-spec = tie.close (tie.spec (λ c. sym (length-replicate {0} {A = ℕ} 3145728 0)))
+pub answer_room_spec : {M : Type 1} → statement M
+answer_room_spec = tie.close (tie.spec (λ c. sym (length-replicate {0} {A = ℕ} 3145728 0)))

@@ -18,5 +18,5 @@ returns-2 c =
     let yes : i.before.before.before.args.goes ≡ true = not-false _ i.if1.false in
     λ s h. rw yes (a.apply.ensures s h)
 
-pub apply-where-spec : {M : Type 1} → statement M
-apply-where-spec = tie.close (tie.spec returns (λ c κs. search rules) (λ c. search rules) returns-2)
+pub apply_where_spec : {M : Type 1} → statement M
+apply_where_spec = tie.close (tie.spec returns (λ c κs. search rules) (λ c. search rules) returns-2)

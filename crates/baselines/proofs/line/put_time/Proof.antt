@@ -19,5 +19,5 @@ returns-2 c =
     let e : is_none q.before.before.args.time ≡ false = sym q.is_none.ensures ∙ p.before.before.if1.false in
     p.put32.ensures ∙ sym (rw e)
 
-pub put-time-spec : {M : Type 1} → statement M
-put-time-spec = tie.close (tie.spec (λ c κs. search rules) returns (λ c κs. search rules) (λ c. search rules) returns-2)
+pub put_time_spec : {M : Type 1} → statement M
+put_time_spec = tie.close (tie.spec (λ c κs. search rules) returns (λ c κs. search rules) (λ c. search rules) returns-2)

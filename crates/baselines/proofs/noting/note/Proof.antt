@@ -16,5 +16,5 @@ returns c =
     let p = c.before.before.before.before.before.before.before.before.before.before.args.permanent.now in
     (e.0, e.1 ∙ ap (λ (l : List ℕ). l ++ life_ends 0 (slices_of p)) b.1)
 
-pub note-spec : {M : Type 1} → statement M
-note-spec = tie.close (tie.spec (λ c κs. search rules) (λ c κs. search rules) (λ c. search rules) returns)
+pub note_spec : {M : Type 1} → statement M
+note_spec = tie.close (tie.spec (λ c κs. search rules) (λ c κs. search rules) (λ c. search rules) returns)

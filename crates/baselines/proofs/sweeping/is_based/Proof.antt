@@ -6,5 +6,5 @@ use Rattle.baselines.proofs.sweeping.is_based.Tie as tie
 returns : tie.Need-returns
 returns c = c.precedes.ensures
 
-pub is-based-spec : {M : Type 1} → statement M
-is-based-spec = tie.close (tie.spec (λ c κs. search rules) returns)
+pub is_based_spec : {M : Type 1} → statement M
+is_based_spec = tie.close (tie.spec (λ c κs. search rules) returns)

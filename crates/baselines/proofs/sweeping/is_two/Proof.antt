@@ -8,5 +8,5 @@ returns : tie.Need-returns
 unfolding is_two
 returns c = rw c.before.before.is-based.ensures
 
-pub is-two-spec : {M : Type 1} → statement M
-is-two-spec = tie.close (tie.spec (λ c κs. search rules) returns)
+pub is_two_spec : {M : Type 1} → statement M
+is_two_spec = tie.close (tie.spec (λ c κs. search rules) returns)

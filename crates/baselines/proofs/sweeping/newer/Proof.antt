@@ -21,5 +21,5 @@ returns-2 c =
     let e : is_none q.before.args.new ≡ false = sym q.is_none.ensures ∙ c.if1.false in
     sym (rw e)
 
-pub newer-spec : {M : Type 1} → statement M
-newer-spec = tie.close (tie.spec (λ c κs. search rules) returns returns-2)
+pub newer_spec : {M : Type 1} → statement M
+newer_spec = tie.close (tie.spec (λ c κs. search rules) returns returns-2)

@@ -20,5 +20,5 @@ returns-2 : tie.Need-returns-2
 unfolding next_with
 returns-2 c = sym (rw (sym (tested c.before) ∙ c.if1.false))
 
-pub next-of-spec : {M : Type 1} → statement M
-next-of-spec = tie.close (tie.spec (λ c κs. search rules) (λ c κs. search rules) returns returns-2)
+pub next_of_spec : {M : Type 1} → statement M
+next_of_spec = tie.close (tie.spec (λ c κs. search rules) (λ c κs. search rules) returns returns-2)

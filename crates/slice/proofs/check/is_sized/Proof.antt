@@ -27,5 +27,5 @@ returns-3 c =
     iff (eqb ((length a.s.now - a.head) / 8) a.stride) (eqb (length a.s.now) (a.head + 8 * a.stride))
     (λ e. omega tests) (λ e. omega tests)
 
-pub is-sized-spec : {M : Type 1} → statement M
-is-sized-spec = tie.close (tie.spec returns (λ c. search rules) returns-2 returns-3)
+pub is_sized_spec : {M : Type 1} → statement M
+is_sized_spec = tie.close (tie.spec returns (λ c. search rules) returns-2 returns-3)

@@ -31,5 +31,5 @@ returns-2 c =
     let e : a.at + a.size - a.at ≡ a.size = omega arith in
     (omega arith, (omega arith, (rw e, sym (drop-drop a.size a.at a.bytes.now))))
 
-pub past-spec : {M : Type 1} → statement M
-past-spec = tie.close (tie.spec (λ c. search rules) (λ c. search rules) returns returns-2)
+pub past_spec : {M : Type 1} → statement M
+past_spec = tie.close (tie.spec (λ c. search rules) (λ c. search rules) returns returns-2)

@@ -9,5 +9,5 @@ unfolding reserved_clear
 returns c =
     rw (c.blank8.ensures, c.before.byte.ensures)
 
-pub reserved-clear-spec : {M : Type 1} → statement M
-reserved-clear-spec = tie.close (tie.spec (λ c κs. search rules) (λ c κs. search rules) returns)
+pub reserved_clear_spec : {M : Type 1} → statement M
+reserved_clear_spec = tie.close (tie.spec (λ c κs. search rules) (λ c κs. search rules) returns)

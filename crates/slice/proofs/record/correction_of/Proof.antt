@@ -7,5 +7,5 @@ returns : tie.Need-returns
 returns c =
     rw c.be16.ensures
 
-pub correction-of-spec : {M : Type 1} → statement M
-correction-of-spec = tie.close (tie.spec (λ c κs. search rules) returns)
+pub correction_of_spec : {M : Type 1} → statement M
+correction_of_spec = tie.close (tie.spec (λ c κs. search rules) returns)

@@ -7,5 +7,5 @@ returns : tie.Need-returns
 returns c =
     rw c.byte.ensures
 
-pub is-cancelled-spec : {M : Type 1} → statement M
-is-cancelled-spec = tie.close (tie.spec (λ c κs. search rules) returns)
+pub is_cancelled_spec : {M : Type 1} → statement M
+is_cancelled_spec = tie.close (tie.spec (λ c κs. search rules) returns)

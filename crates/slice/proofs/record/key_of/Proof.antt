@@ -7,5 +7,5 @@ returns : tie.Need-returns
 returns c =
     rw (c.byte.ensures, c.before.be32.ensures)
 
-pub key-of-spec : {M : Type 1} → statement M
-key-of-spec = tie.close (tie.spec (λ c κs. search rules) (λ c κs. search rules) returns)
+pub key_of_spec : {M : Type 1} → statement M
+key_of_spec = tie.close (tie.spec (λ c κs. search rules) (λ c κs. search rules) returns)

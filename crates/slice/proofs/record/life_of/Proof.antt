@@ -7,5 +7,5 @@ returns : tie.Need-returns
 returns c =
     rw (c.be322.ensures, c.before.be32.ensures)
 
-pub life-of-spec : {M : Type 1} → statement M
-life-of-spec = tie.close (tie.spec (λ c κs. search rules) (λ c κs. search rules) returns)
+pub life_of_spec : {M : Type 1} → statement M
+life_of_spec = tie.close (tie.spec (λ c κs. search rules) (λ c κs. search rules) returns)

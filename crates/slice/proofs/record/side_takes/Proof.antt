@@ -20,5 +20,5 @@ unfolding of_side
 returns-3 c =
     rw (ne_eqb _ _ c.match.rest.0.1, ne_eqb _ _ c.match.rest.1)
 
-pub side-takes-spec : {M : Type 1} → statement M
-side-takes-spec = tie.close (tie.spec returns returns-2 returns-3)
+pub side_takes_spec : {M : Type 1} → statement M
+side_takes_spec = tie.close (tie.spec returns returns-2 returns-3)

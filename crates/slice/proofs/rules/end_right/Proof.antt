@@ -7,5 +7,5 @@ returns : tie.Need-returns
 returns c =
     rw (c.precedes.ensures, c.before.is_none.ensures)
 
-pub end-right-spec : {M : Type 1} → statement M
-end-right-spec = tie.close (tie.spec (λ c κs. search rules) (λ c κs. search rules) returns)
+pub end_right_spec : {M : Type 1} → statement M
+end_right_spec = tie.close (tie.spec (λ c κs. search rules) (λ c κs. search rules) returns)

@@ -11,5 +11,5 @@ none_at zero q = refl
 none_at (suc n) zero = refl
 none_at (suc n) (suc q) = none_at n q
 
-pub no-mention-spec : {M : Type 1} → statement M
-no-mention-spec = tie.close (tie.spec (λ c. (refl, none_at 10)))
+pub no_mention_spec : {M : Type 1} → statement M
+no_mention_spec = tie.close (tie.spec (λ c. (refl, none_at 10)))

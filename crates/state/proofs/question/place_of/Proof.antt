@@ -18,8 +18,8 @@ piece : (c : tie.After-record-size)
     → let n = c.before.before.before.args.n in let s = c.before.stride-of.result in n * s + s ≤ 8 * s
 piece c = piece_within c.before.stride-of.result c.before.before.before.args.n 8 c.before.before.before.requires.1.1
 
-pub place-of-spec : {M : Type 1} → statement M
-place-of-spec =
+pub place_of_spec : {M : Type 1} → statement M
+place_of_spec =
     tie.close
     (tie.spec
     (λ c κs. search rules)

@@ -14,5 +14,5 @@ returns-2 : tie.Need-returns-2
 unfolding counts view_of
 returns-2 c = λ stride. rw (← c.before.before.byte.ensures, eq-eqb _ _ c.before.if1.false, c.is-cancelled.ensures)
 
-pub is-counted-spec : {M : Type 1} → statement M
-is-counted-spec = tie.close (tie.spec (λ c κs. search rules) returns (λ c κs. search rules) returns-2)
+pub is_counted_spec : {M : Type 1} → statement M
+is_counted_spec = tie.close (tie.spec (λ c κs. search rules) returns (λ c κs. search rules) returns-2)

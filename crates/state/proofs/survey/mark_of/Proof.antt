@@ -20,5 +20,5 @@ returns c =
           k.sequence;
     }) c.before.before.before.period-of.ensures c.before.before.key_of_lem.ensures
 
-pub mark-of-spec : {M : Type 1} → statement M
-mark-of-spec = tie.close (tie.spec (λ c κs. search rules) (λ c κs. search rules) (λ c. search rules) returns)
+pub mark_of_spec : {M : Type 1} → statement M
+mark_of_spec = tie.close (tie.spec (λ c κs. search rules) (λ c κs. search rules) (λ c. search rules) returns)

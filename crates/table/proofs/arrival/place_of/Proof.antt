@@ -68,8 +68,8 @@ returns : tie.Need-returns invariant-loop decreases-loop
 returns c =
     (omega arith, omega arith)
 
-pub place-of-spec : {M : Type 1} → statement M
-place-of-spec =
+pub place_of_spec : {M : Type 1} → statement M
+place_of_spec =
     tie.close
     (tie.spec
     invariant-loop

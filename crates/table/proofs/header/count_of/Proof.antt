@@ -6,5 +6,5 @@ use Rattle.table.proofs.header.count_of.Tie as tie
 returns : tie.Need-returns
 returns c = c.be16.ensures
 
-pub count-of-spec : {M : Type 1} → statement M
-count-of-spec = tie.close (tie.spec (λ c κs. search rules) returns)
+pub count_of_spec : {M : Type 1} → statement M
+count_of_spec = tie.close (tie.spec (λ c κs. search rules) returns)

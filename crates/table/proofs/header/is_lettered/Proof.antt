@@ -9,5 +9,5 @@ unfolding lettered
 returns c =
     rw (← c.before.before.byte.ensures, ← c.before.byte2.ensures, ← c.byte3.ensures)
 
-pub is-lettered-spec : {M : Type 1} → statement M
-is-lettered-spec = tie.close (tie.spec (λ c κs. search rules) (λ c κs. search rules) (λ c κs. search rules) returns)
+pub is_lettered_spec : {M : Type 1} → statement M
+is_lettered_spec = tie.close (tie.spec (λ c κs. search rules) (λ c κs. search rules) (λ c κs. search rules) returns)

@@ -29,5 +29,5 @@ returns-4 : tie.Need-returns-4
 unfolding room_of
 returns-4 c = omega arith
 
-pub room-of-spec : {M : Type 1} → statement M
-room-of-spec = tie.close (tie.spec returns returns-2 (λ c. search rules) (λ c. search rules) returns-3 returns-4)
+pub room_of_spec : {M : Type 1} → statement M
+room_of_spec = tie.close (tie.spec returns returns-2 (λ c. search rules) (λ c. search rules) returns-3 returns-4)

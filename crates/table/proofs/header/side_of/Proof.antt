@@ -6,5 +6,5 @@ use Rattle.table.proofs.header.side_of.Tie as tie
 returns : tie.Need-returns
 returns c = c.byte.ensures
 
-pub side-of-spec : {M : Type 1} → statement M
-side-of-spec = tie.close (tie.spec (λ c κs. search rules) returns)
+pub side_of_spec : {M : Type 1} → statement M
+side_of_spec = tie.close (tie.spec (λ c κs. search rules) returns)

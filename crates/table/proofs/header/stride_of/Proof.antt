@@ -6,5 +6,5 @@ use Rattle.table.proofs.header.stride_of.Tie as tie
 returns : tie.Need-returns
 returns c = refl
 
-pub stride-of-spec : {M : Type 1} → statement M
-stride-of-spec = tie.close (tie.spec returns)
+pub stride_of_spec : {M : Type 1} → statement M
+stride_of_spec = tie.close (tie.spec returns)

@@ -57,8 +57,8 @@ put_digits_returns_3 t c =
     rw (digits_more a.k a.n (omega arith) (omega arith))
     (wrote_most (omega arith) (then (omega arith) q.put-digits.ensures p.put-letters2.ensures))
 
-pub +put-digits-spec : {M : Type 1} → statement M
-+put-digits-spec = close μ-put-digits λ t. put-digits-lts.spec (
+pub +put_digits_spec : {M : Type 1} → statement M
++put_digits_spec = close μ-put-digits λ t. put-digits-lts.spec (
   put-letters-reads.Asked,
   put-letters-reads.Learnt,
   put_digits_below t,

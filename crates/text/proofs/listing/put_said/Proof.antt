@@ -27,5 +27,5 @@ returns-2 c =
           ∙ ap (λ (n : ℕ). a.said.now ++ drop n a.text.now) (zero-add (length a.said.now)),
     )
 
-pub put-said-spec : {M : Type 1} → statement M
-put-said-spec = tie.close (tie.spec returns (λ c κs. search rules) (λ c. search rules) returns-2)
+pub put_said_spec : {M : Type 1} → statement M
+put_said_spec = tie.close (tie.spec returns (λ c κs. search rules) (λ c. search rules) returns-2)

@@ -15,5 +15,5 @@ no_nan nan h = let z : ◌≡◌ {A = ℕ} 0 1 = cc in absurd (omega arith)
 no_nan (inf s) h = tt
 no_nan (fin s m e) h = tt
 
-pub bits-of-spec : {M : Type 1} → statement M
-bits-of-spec = tie.close (tie.spec (λ c. no_nan _ c.if1.true) (λ c. search rules) (λ c. search rules))
+pub bits_of_spec : {M : Type 1} → statement M
+bits_of_spec = tie.close (tie.spec (λ c. no_nan _ c.if1.true) (λ c. search rules) (λ c. search rules))

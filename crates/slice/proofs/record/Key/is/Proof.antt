@@ -9,5 +9,5 @@ unfolding same_key
 returns c =
     rw c.is.ensures
 
-pub is-spec : {M : Type 1} → statement M
-is-spec = tie.close (tie.spec (λ c κs. search rules) returns)
+pub is_spec : {M : Type 1} → statement M
+is_spec = tie.close (tie.spec (λ c κs. search rules) returns)

@@ -11,5 +11,5 @@ unfolding key_less lex_less lower_sequence
 returns c =
     rw c.precedes.ensures
 
-pub precedes-spec : {M : Type 1} → statement M
-precedes-spec = tie.close (tie.spec (λ c κs. search rules) returns)
+pub precedes_spec : {M : Type 1} → statement M
+precedes_spec = tie.close (tie.spec (λ c κs. search rules) returns)
