@@ -1,0 +1,15 @@
+use Prim.Native.Nat.{◌+◌, ◌≤◌}
+use mathlib.Core.Path.{◌≡◌, refl, sym, ◌∙◌}
+use native.Mathlib.Omega.{arith}
+use lib.ListN.{length, length-set}
+use borrow.Author.Tests.{not-true, not-false, leb-true}
+use borrow.Author.Rules.{rules}
+use Rattle.octets.specs.Writing.{opened}
+use Rattle.octets.proofs.Writing.{opened_none, opened_turned, opened_not, opened_turn}
+use Rattle.octets.proofs.writers.open_gap.Given as goal
+
+abbrev pub invariant-loop-i : goal.invariant-loop-i
+invariant-loop-i l = (l.from ≤ l.i) × (l.i ≤ l.to) × (l.to + l.k ≤ length l.initial.s) × (l.s ≡ opened l.initial.s l.i l.to l.k) × (length l.s ≡ length l.initial.s)
+
+abbrev pub decreases-loop-i : goal.decreases-loop-i
+decreases-loop-i l = l.i
