@@ -19,7 +19,7 @@ use slice::BASELINE;
 use table::{record_at, record_size};
 
 // What the change instants of a table give: two anchors at one of them, or how many records.
-#[derive(Drop)]
+#[derive(Clone, Copy)]
 pub enum Counted {
     Two,
     Records(usize),

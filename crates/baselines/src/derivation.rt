@@ -15,7 +15,7 @@ use slice::{Checked, PERMANENT, Refusal, refusals};
 use table::{Sides, check_table, record_size};
 
 // What a derivation answers: how many records it has written.
-#[derive(Drop)]
+#[derive(Clone, Copy)]
 pub enum Derivation {
     Derived(usize),
     Refused(Refusal),

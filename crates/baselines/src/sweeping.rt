@@ -13,7 +13,7 @@ use slice::{life_of, period_of};
 // What a sweep has seen: the begin and the end of the BASELINE that began last, the life end that its line
 // tells, the life end that the line of the first opening PERMDELTA tells, how many have opened, and whether a
 // BASELINE began while another held.
-#[derive(Drop)]
+#[derive(Clone, Copy)]
 pub struct Sweep {
     pub begin: Instant,
     pub end: Instant,

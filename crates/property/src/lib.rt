@@ -16,7 +16,7 @@ use crate::double::{double, is_finite, within};
 use octets::{be64, blank8, byte, le64};
 
 // The unit of a length.
-#[derive(Drop)]
+#[derive(Clone, Copy)]
 pub enum LengthUnit {
     M,
     FT,
@@ -25,14 +25,14 @@ pub enum LengthUnit {
 }
 
 // A point, in degrees.
-#[derive(Drop)]
+#[derive(Clone, Copy)]
 pub struct Position {
     pub latitude: f64,
     pub longitude: f64,
 }
 
 // What a property says.
-#[derive(Drop)]
+#[derive(Clone, Copy)]
 pub enum Value {
     // The record does not mention the property.
     Unmentioned,
@@ -49,7 +49,7 @@ pub enum Value {
 }
 
 // A value, or that the bytes break the layout.
-#[derive(Drop)]
+#[derive(Clone, Copy)]
 pub enum Decoded {
     Good(Value),
     Broken,
@@ -57,14 +57,14 @@ pub enum Decoded {
 
 // What the check of a record's eight properties finds: the place of the first that breaks the layout,
 // or, where none does, how many are mentioned.
-#[derive(Drop)]
+#[derive(Clone, Copy)]
 pub enum Survey {
     FirstBad(usize),
     Mentions(usize),
 }
 
 // What a form may use: the least and the greatest detail, and how many content bytes.
-#[derive(Drop)]
+#[derive(Clone, Copy)]
 pub struct Row(pub u8, pub u8, pub u8);
 
 // The forms, one row each. What a row leaves unused is zero.
@@ -79,7 +79,7 @@ const FORMS: [Row; 6] = [
 
 // A row as limits of numbers: of the detail, and of eight bytes of content and eight more, each read
 // with the lowest byte first, so that bytes that are zero make it small.
-#[derive(Drop)]
+#[derive(Clone, Copy)]
 pub struct Limits {
     pub least: u64,
     pub greatest: u64,

@@ -13,13 +13,13 @@ use octets::{blank, blank8, byte, full8, same};
 use property::{Survey, check_eight};
 
 // A refusal, by its number.
-#[derive(Drop)]
+#[derive(Clone, Copy)]
 pub struct Refusal {
     pub number: u8,
 }
 
 // What a check answers.
-#[derive(Drop)]
+#[derive(Clone, Copy)]
 pub enum Checked {
     Sound,
     Refused(Refusal),
@@ -27,7 +27,7 @@ pub enum Checked {
 
 // What the check of records that stand one behind the other finds: each is sound, or the place of the
 // first that is refused, and its refusal.
-#[derive(Drop)]
+#[derive(Clone, Copy)]
 pub enum Review {
     AllSound,
     Failing(usize, Refusal),

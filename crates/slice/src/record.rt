@@ -18,21 +18,21 @@ pub const PERMANENT: u8 = 0;
 pub const TEMPORARY: u8 = 1;
 
 // What a table is ordered by: the kind, then the sequence number.
-#[derive(Drop)]
+#[derive(Clone, Copy)]
 pub struct Key {
     pub kind: u8,
     pub sequence: SequenceNumber,
 }
 
 // From begin on, before end. The begin of a PERMDELTA is its instant.
-#[derive(Drop)]
+#[derive(Clone, Copy)]
 pub struct Period {
     pub begin: Instant,
     pub end: Instant,
 }
 
 // The feature's life time, as far as the slice gives it.
-#[derive(Drop)]
+#[derive(Clone, Copy)]
 pub struct Life {
     pub begin: Instant,
     pub end: Instant,

@@ -13,7 +13,7 @@ use slice::{Life, Refusal, key_of, life_of, period_of, refusals};
 use table::{record_at, record_size, stride_of};
 
 // None, one by its place, or more.
-#[derive(Drop)]
+#[derive(Clone, Copy)]
 pub enum Few {
     Zero,
     One(usize),
@@ -21,7 +21,7 @@ pub enum Few {
 }
 
 // An anchor: whether it is a BASELINE, its record's place, its begin and its sequence number.
-#[derive(Drop)]
+#[derive(Clone, Copy)]
 pub struct Start {
     pub based: bool,
     pub place: usize,
@@ -30,7 +30,7 @@ pub struct Start {
 }
 
 // The anchor of a state that is known, or why none is.
-#[derive(Drop)]
+#[derive(Clone, Copy)]
 pub enum Standing {
     From(Start),
     Refused(Refusal),

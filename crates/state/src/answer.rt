@@ -13,7 +13,7 @@ use slice::{Checked, Refusal, refusals};
 use table::{Sides, check_table, record_size};
 
 // What a question answers that writes a record.
-#[derive(Drop)]
+#[derive(Clone, Copy)]
 pub enum Outcome {
     Written,
     Refused(Refusal),

@@ -16,7 +16,7 @@ use table::{count_of, record_at, record_size};
 
 // Of the BASELINEs that have begun by an instant: those that hold by an end of their own, the last begin,
 // and those without an end that begin there.
-#[derive(Drop)]
+#[derive(Clone, Copy)]
 pub struct Bases {
     pub fixed: Few,
     pub last: Instant,
@@ -24,7 +24,7 @@ pub struct Bases {
 }
 
 // The front of a permanent table: what its BASELINEs are at an instant, and where it ends.
-#[derive(Drop)]
+#[derive(Clone, Copy)]
 pub struct Front {
     pub bases: Bases,
     pub end: usize,

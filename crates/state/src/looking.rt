@@ -12,7 +12,7 @@ use slice::{Refusal, TEMPDELTA};
 use table::{count_of, record_at, record_size, stride_of};
 
 // Whether a TEMPDELTA touches a property, with how many records were looked at.
-#[derive(Drop)]
+#[derive(Clone, Copy)]
 pub enum Touched {
     Yes(usize),
     No(usize),

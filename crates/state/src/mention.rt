@@ -11,7 +11,7 @@ use slice::life_of;
 
 // A mention: the record's place and one, 0 where there is none; the instant at which it applies; its
 // sequence number.
-#[derive(Drop)]
+#[derive(Clone, Copy)]
 pub struct Mark {
     pub from: usize,
     pub instant: Instant,
@@ -19,7 +19,7 @@ pub struct Mark {
 }
 
 // The latest mention of each of the ten parts.
-#[derive(Drop)]
+#[derive(Clone, Copy)]
 pub struct Latest {
     pub marks: [Mark; 10],
 }

@@ -15,7 +15,7 @@ use slice::{Checked, Refusal, refusals};
 use table::{record_at, record_size, stride_of};
 
 // Where the bytes of a property begin: at a place of the permanent or of the temporary table, or nowhere.
-#[derive(Drop)]
+#[derive(Clone, Copy)]
 pub enum Place {
     Permanent(usize),
     Temporary(usize),
@@ -24,7 +24,7 @@ pub enum Place {
 }
 
 // Which table has a property's bytes.
-#[derive(Drop)]
+#[derive(Clone, Copy)]
 pub enum Source {
     Permanent,
     Temporary,

@@ -18,7 +18,7 @@ use table::{count_of, record_at, record_size, stride_of};
 
 // What a pass over the permanent table finds: the BASELINEs that hold at an instant; of the PERMDELTAs that
 // can matter to it, those that open, and the latest mentions.
-#[derive(Drop)]
+#[derive(Clone, Copy)]
 pub struct Survey {
     pub bases: Few,
     pub openings: Few,

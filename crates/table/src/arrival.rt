@@ -12,7 +12,7 @@ use octets::{open_gap, put, put16, same};
 use slice::{Checked, Key, Refusal, check_slice, correction_of, key_of, refusals};
 
 // What an arrival answers.
-#[derive(Drop)]
+#[derive(Clone, Copy)]
 pub enum Arrival {
     Added,
     Replaced,

@@ -10,7 +10,7 @@ use octets::{be16, blank8};
 use slice::{Checked, Review, check_records, key_of, refusals};
 
 // The sides that a call takes.
-#[derive(Drop)]
+#[derive(Clone, Copy)]
 pub enum Sides {
     Permanent,
     Temporary,

@@ -7,7 +7,7 @@ use octets::put;
 use slice::{Refusal, refusals};
 
 // What making a table answers.
-#[derive(Drop)]
+#[derive(Clone, Copy)]
 pub enum Creation {
     Made,
     Refused(Refusal),

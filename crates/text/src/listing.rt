@@ -8,7 +8,7 @@ use baselines::{Derivation, derive};
 use octets::put;
 
 // What writing a text answers: its length; or the length that it needs, where the buffer is shorter.
-#[derive(Drop)]
+#[derive(Clone, Copy)]
 pub enum Listing {
     Text(usize),
     Needs(usize),

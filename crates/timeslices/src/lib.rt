@@ -20,7 +20,7 @@ use text::{Listing, list};
 
 // An answer as C has it. Kind 0: refused, and `number` says why. The other kinds are each call's own.
 #[repr(C)]
-#[derive(Drop)]
+#[derive(Clone, Copy)]
 pub struct Answer {
     pub kind: u32,
     pub number: u32,
@@ -29,7 +29,7 @@ pub struct Answer {
 // Where a property stands, as C has it. Kind 0: refused, and `number` says why; 1 in the permanent table, 2
 // in the temporary one, from byte `at` on, `size` bytes; 3 unmentioned. Unused fields are 0.
 #[repr(C)]
-#[derive(Drop)]
+#[derive(Clone, Copy)]
 pub struct Part {
     pub kind: u32,
     pub number: u32,
