@@ -253,6 +253,7 @@ module _ (stride : ℕ) where
   unknown_to n = ahead ++ joined (take n (replicate 8 (after 1 4)) ++ drop n (replicate 8 (after 0 0)))
 
   unknown_in : {A : Type 0} (n : ℕ) (v a : A) → In v (replicate n a) → v ≡ a
+  unknown_in {A = A} zero v a x' = elim x' [ ]
   unknown_in (suc n) v a (inl e) = e
   unknown_in (suc n) v a (inr m) = unknown_in n v a m
 

@@ -42,6 +42,7 @@ use Rattle.baselines.proofs.Passes.{low, counted_right, kind_times}
 module _ (time : Slice → Instant) (place : ℕ → ℕ) where
   notes_in : (i : ℕ) (l : List Slice) (d : Slice) (e : ℕ) → In e (notes time place i l)
       → (k : ℕ) × (k < length l) × (given (time (get_or l k d)) ≡ true) × (e ≡ event_of (time (get_or l k d)) (place (i + k)))
+  notes_in i [] d e m = elim m [ ]
   notes_in i (x ∷ xs) d e m =
       let later : In e (notes time place (suc i) xs) → (k : ℕ) × (k < suc (length xs))
       × (given (time (get_or (x ∷ xs) k d)) ≡ true) × (e ≡ event_of (time (get_or (x ∷ xs) k d)) (place (i + k))) =
@@ -103,6 +104,7 @@ begins_pairs i (x ∷ xs) rest h late =
     (λ _. more)
 
 ends_nowhere : (l : List Slice) (f : ℕ) → In f (life_ends 0 l) → place_of f ≡ nowhere
+ends_nowhere [] f m = elim m [ ]
 ends_nowhere (x ∷ xs) f m =
     let (k, _, _, q) = notes_in gone_of (λ _. nowhere) 0 (x ∷ xs) x f m in
     ap place_of q ∙ place_of_event (gone_of (get_or (x ∷ xs) k x)) nowhere (omega arith)

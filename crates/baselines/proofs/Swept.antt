@@ -41,6 +41,7 @@ abbrev Later : ℕ → ℕ → Type 0
 Later = Ordered Behind
 
 head_least : (l : List ℕ) → Pairs Later l → (e : ℕ) → In e l → (head_of l).0 ≤ (time_of e).0
+head_least [] _ e x3 = elim x3 [ ]
 head_least (f ∷ l) (low, h) e (inl q) = let z = ap (λ x. (time_of x).0) q in omega tests
 head_least (f ∷ l) (low, h) e (inr m) = ⊎_elim (λ k. omega tests) (λ (k, _). omega tests) (low e m)
 
@@ -49,6 +50,7 @@ head_beyond : (l : List ℕ) (t : Instant) → Pairs Later l → ((e : ℕ) → 
     → same_instant (head_of l) t ≡ false
     → (e : ℕ) → In e l → t.0 < (time_of e).0
 unfolding same_instant
+head_beyond [] t up all n e m = elim m [ ]
 head_beyond (f ∷ l) t up all n e m = let b = all f (inl refl) in let k = head_least (f ∷ l) up e m in omega tests
 
 head_in : (l : List ℕ) → (head_of l ≡ none) ⊎ ((e : ℕ) × In e l × (head_of l ≡ time_of e))

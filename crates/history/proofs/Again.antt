@@ -86,6 +86,7 @@ module _ (unknown : List ℕ) where
   numbered_written n (s ∷ l) = ap₂ ◌∷◌ (baseline_written n s) (numbered_written (suc n) l)
 
   in_numbered : (n : ℕ) (l : List Stretch) (s : Stretch) → In s l → (k : ℕ) × In (baseline_of unknown k s) (numbered_from unknown n l)
+  in_numbered n [] s x' = elim x' [ ]
   in_numbered n (x ∷ l) s (inl e) = (n, inl (ap (baseline_of unknown n) e))
   in_numbered n (x ∷ l) s (inr m) = let (k, i) = in_numbered (suc n) l s m in (k, inr i)
 
@@ -107,6 +108,7 @@ module _ (unknown : List ℕ) where
             → In x (s.period.begin ∷ s.period.end ∷ s.state.life.end ∷ []) → Changing slices x
         one s h (inl e) = inr (rw e h.begins)
         one s h (inr (inl e)) = rw e h.ends
+        one s h (inr (inr (inr x4))) = elim x4 [ ]
         one s h (inr (inr (inl e))) = rw e (known_life slices ok s.period.begin s.state h.has)
 
     -- and each stretch begins at one of them, and ends at one or never

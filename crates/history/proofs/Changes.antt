@@ -103,6 +103,7 @@ next_in (t ∷ ts) = inr (inl refl)
 
 pub next_least : (l : List Instant) → Risen l → (x : Instant) → In x l → (next_of l).0 ≤ x.0
 unfolding before
+next_least [] up x x4 = elim x4 [ ]
 next_least (t ∷ ts) up x (inl e) = omega (tests, ap (λ i. i.0) e)
 next_least (t ∷ ts) (low, up) x (inr m) = omega (tests, low x m)
 

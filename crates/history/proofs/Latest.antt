@@ -112,6 +112,7 @@ module _ {K : Type 0} (key : Slice → K) (less same : K → K → Bool) (o : Ke
   last_covers : (test : Slice → Bool) (v : Option Slice) (l : List Slice) → Rising key less same l → (d : Slice) → In d l
       → test d ≡ true
       → Covers (last_of test v l) d
+  last_covers test v [] _ d x4 t = elim x4 [ ]
   last_covers test v (x ∷ l) (low, up) d (inl e) t =
       last_stays test (cond (test x) (some x) v) l d (λ y m. rw e (less_asym less same o (key x) (key y) (low y m)))
       (rw (← e, t) (self d))
@@ -169,6 +170,7 @@ module _ {K : Type 0} (key : Slice → K) (less same : K → K → Bool) (o : Ke
 
     from_covers : (v : Option Placed) (i : ℕ) (ds : List Slice) (d : Slice) → In d ds → test d ≡ true
         → Covers (slice_in (latest_from later test v i ds)) d
+    from_covers v i [] d x'' t = elim x'' [ ]
     from_covers v i (x ∷ ds) d (inl e) t =
         from_stays (latest_with later test v i x) (suc i) ds d (rw (← e) (with_own v i d t))
     from_covers v i (x ∷ ds) d (inr m) t = from_covers (latest_with later test v i x) (suc i) ds d m t

@@ -27,6 +27,7 @@ module _ (slices : List Slice) where
     pub has : permanent_at s.period.begin slices ≡ known s.state
 
   pub stretched : (us : List Instant) (s : Stretch) → In s (stretches_from slices us) → Stretched us s
+  stretched [] s m = elim m [ ]
   stretched (t ∷ ts) s m =
       ⊎_elim (λ n. here (permanent_at t slices) refl n) (λ n. let h = stretched ts s n in
       record { begins = inr h.begins; ends = ⊎_elim inl (λ i. inr (inr i)) h.ends; has = h.has })
@@ -46,6 +47,7 @@ module _ (slices : List Slice) where
   pub stretch_next : (us : List Instant) → Risen us → ((x : Instant) → In x us → given x ≡ true) → (s : Stretch)
       → In s (stretches_from slices us) → Next us s
   unfolding before
+  stretch_next [] _ g s m = elim m [ ]
   stretch_next (t ∷ ts) (low, up) g s m =
       ⊎_elim (here (permanent_at t slices)) (λ n. let h = stretch_next ts up (λ x i. g x (inr i)) s n in
       let later = low s.period.begin (stretched ts s n).begins in
@@ -70,6 +72,7 @@ module _ (unknown : List ℕ) where
   -- each BASELINE is made of a stretch
   pub numbered_in : (n : ℕ) (l : List Stretch) (b : Slice) → In b (numbered_from unknown n l)
       → (k : ℕ) × (s : Stretch) × In s l × (b ≡ baseline_of unknown k s)
+  numbered_in n [] b x' = elim x' [ ]
   numbered_in n (s ∷ l) b (inl e) = (n, s, inl refl, e)
   numbered_in n (s ∷ l) b (inr m) = let (k, x, i, e) = numbered_in (suc n) l b m in (k, x, inr i, e)
 
@@ -81,6 +84,7 @@ module _ (unknown : List ℕ) where
   numbered_above : (n : ℕ) (l : List Stretch) (b : Slice) → In b (numbered_from unknown n l)
       → (b.kind ≡ baseline) × (n ≤ b.sequence.0)
   unfolding baseline_of
+  numbered_above n [] b x' = elim x' [ ]
   numbered_above n (s ∷ l) b (inl e) = (ap (λ x. x.kind) e, omega (arith, ap (λ x. x.sequence.0) e))
   numbered_above n (s ∷ l) b (inr m) = let h = numbered_above (suc n) l b m in (h.0, omega (arith, h.1))
 

@@ -95,6 +95,7 @@ base_in (x ∷ xs) b e =
     (λ n. let (m, y) = base_in xs b (rw n at e) in (inr m, y))
 
 no_base_lem : (xs : List Slice) → last_base xs ≡ nobody → (x : Slice) → In x xs → is_base x ≡ true → ⊥
+no_base_lem [] e x m k = elim m [ ]
 no_base_lem (y ∷ ys) e x m k =
     by-test (is_base y) (λ p. none-ne-some y (sym (rw p at e)))
     (λ n. ⊎_elim (λ i. contrary k (ap is_base i ∙ n)) (λ i. no_base_lem ys (rw n at e) x i k) m)
@@ -120,6 +121,7 @@ over_trans x c b (p, q) (r, s) = (omega tests, ⊎_elim inl (λ h. inr (omega te
 others_over : (xs : List Slice) → Falling xs → (seen xs).two ≡ false → (b : Slice) → last_base xs ≡ some b → (x : Slice) → In x xs
     → is_base x ≡ true → (x ≡ b) ⊎ Over x b
 unfolding begun changed
+others_over [] _ n b e x m k = elim m [ ]
 others_over (y ∷ ys) (low, fall) n b e x m k =
     by-test (is_base y)
     (λ p. let i = some-injective y b (rw p at e) in
@@ -249,6 +251,7 @@ lower_apart x y h e = key_irrefl (slice_key x) (ap (λ (z : Slice). key_less (sl
 
 kept_alone : (f : Slice → Bool) (l : List Slice) → Rising slice_key key_less same_key l → (b : Slice) → In b l → f b ≡ true
     → ((x : Slice) → In x l → f x ≡ true → x ≡ b) → kept f l ≡ b ∷ []
+kept_alone f [] _ b x5 y one = elim x5 [ ]
 kept_alone f (x ∷ l) (low, up) b (inl e) y one =
     let p : f x ≡ true = ap f (sym e) ∙ y in
     let q = kept_none f l (λ z m. never (f z) (λ h. lower_apart x z (low z m) (one z (inr m) h ∙ e))) in
@@ -258,6 +261,9 @@ kept_alone f (x ∷ l) (low, up) b (inr m) y one =
     rw p (kept_alone f l up b m y (λ z k. one z (inr k)))
 
 only_two : (at : Slice → Anchor) (o : Anchor) (l : List Slice) (a b : Slice) → In a l → In b l → (a ≡ b → ⊥) → only at o l ≡ two
+only_two at o [] a b i j n = elim i [ ]
+only_two at o (x ∷ []) a b (inl p) (inr x14) n = elim x14 [ ]
+only_two at o (x ∷ []) a b (inr x13) j n = elim x13 [ ]
 only_two at o (x ∷ []) a b (inl p) (inl q) n = absurd (n (p ∙ sym q))
 only_two at o (x ∷ y ∷ l) a b i j n = refl
 
@@ -508,6 +514,7 @@ module _ (slices : List Slice) (up : Rising slice_key key_less same_key slices) 
           let n = ap (λ i. i.0) e in
           ⊎_elim (λ p. inl (p ∙ sym e)) (λ p. inr (omega tests))
           (end_behind s m c (omega tests) (λ k. none_false x g (n ∙ k)))
+      base_reason c (inr (inr (inr x4))) = elim x4 [ ]
       base_reason c (inr (inr (inl e))) = let n = ap (λ i. i.0) e in inr (omega (tests, n, lives s m c (omega tests)))
 
       reason : In x (changes_by s) → Reason

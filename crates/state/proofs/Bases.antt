@@ -214,6 +214,7 @@ module _ (t : Instant) where
   -- and none that has begun begins later
   last_most : (last : Instant) (i : ℕ) (l : List Slice) (s : Slice) → In s l → begun t s ≡ true → (begin_of s).0 ≤ (last_from last i l).0
   unfolding before
+  last_most last i [] s x'' y = elim x'' [ ]
   last_most last i (x ∷ l) s (inr m) y = last_most (last_with last i x) (suc i) l s m y
   last_most last i (x ∷ l) s (inl e) y =
       let here : (begin_of x).0 ≤ (last_with last i x).0 =

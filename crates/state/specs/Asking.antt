@@ -143,7 +143,7 @@ bytes_at p t (place.Refused f) = []
 
 -- where a part of lent bytes points that begins at a place in them
 abbrev pub points_into : Bor (List ℕ) → ℕ → ℕ × ℕ
-points_into s at = (s.ptr.0, at + s.ptr.1)
+points_into s at = (s.ref_ptr.0, at + s.ref_ptr.1)
 
 -- the part that the property question hands back: where it points, and its bytes. Without bytes it is at
 -- the permanent table's front
