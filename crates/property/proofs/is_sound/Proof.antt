@@ -8,35 +8,35 @@ use Rattle.property.proofs.is_sound.Statement.{statement}
 use Rattle.property.proofs.is_sound.Tie as tie
 
 -- the test of the three numbers, over the bytes
-fitted : (c : tie.After-fits2) → let s = c.before.before.before.before.before in
+fitted : (c : tie.After-fits) → let s = c.before.before.before.before.before in
     let p = s.args.p.now in
-    c.fits2.result ≡ fits_of (limits_for (byte_of p 0)) (le_of 8 p 0) (le_of 8 p 8) (le_of 8 p 16)
+    c.fits.result ≡ fits_of (limits_for (byte_of p 0)) (le_of 8 p 0) (le_of 8 p 8) (le_of 8 p 16)
 fitted c =
     let b = c.before in
     rw (
-      c.fits2.ensures,
+      c.fits.ensures,
       b.before.before.before.before.requires.1.0,
-      b.le643.ensures,
-      b.before.le642.ensures,
+      b.le64-3.ensures,
+      b.before.le64-2.ensures,
       b.before.before.le64.ensures,
     )
 
-returns : tie.Need-returns
+returns : tie.Need-returns-then-fits
 returns c =
     let f = c.before.before.before in
     let k = f.before.before.before.before in
     let s = k.before in
     rw (c.is_right.ensures, c.before.held.ensures)
-    (sound_yes s.args.p.now (λ i. (k.shared-slice-known.given i).fits) s.requires.1.1 s.requires.0
-    (sym (fitted f) ∙ c.before.before.if1.true))
+    (sound_yes s.args.p.now (λ i. (k.shared_slice_known-1.given i).fits) s.requires.1.1 s.requires.0
+    (sym (fitted f) ∙ c.before.before.if-fits.true))
 
-returns-2 : tie.Need-returns-2
+returns-2 : tie.Need-returns-else-fits
 returns-2 c =
     let f = c.before in
     let k = f.before.before.before.before in
     let s = k.before in
-    sound_no s.args.p.now (λ i. (k.shared-slice-known.given i).fits) s.requires.1.1 s.requires.0
-    (sym (fitted f) ∙ c.if1.false)
+    sound_no s.args.p.now (λ i. (k.shared_slice_known-1.given i).fits) s.requires.1.1 s.requires.0
+    (sym (fitted f) ∙ c.if-fits.false)
 
 pub is_sound_spec : {M : Type 1} → statement M
 is_sound_spec =
