@@ -21,78 +21,77 @@ use Rattle.slice.proofs.check.check_counted.Statement.{statement}
 use Rattle.slice.proofs.check.check_counted.Tie as tie
 
 -- the properties are those from byte 32 on
-eight : (c : tie.After-check-eight) → let a = c.before.before.before.args in
-    c.check-eight.result ≡ survey_of a.stride (drop 32 a.«record».now)
-eight c = rw (rest_whole 32 c.before.before.before.args.«record».now) at c.check-eight.ensures
+eight : (c : tie.After-check_eight) → let a = c.before.before.before.args in
+    c.check_eight.result ≡ survey_of a.stride (drop 32 a.«record».now)
+eight c = rw (rest_whole 32 c.before.before.before.args.«record».now) at c.check_eight.ensures
 
-abbrev start : tie.After-check-eight → tie.Start
+abbrev start : tie.After-check_eight → tie.Start
 start d = d.before.before.before
 
-abbrev S : tie.After-check-eight → ℕ
+abbrev S : tie.After-check_eight → ℕ
 S d = (start d).args.stride
 
-abbrev R : tie.After-check-eight → List ℕ
+abbrev R : tie.After-check_eight → List ℕ
 R d = (start d).args.«record».now
 
 -- past 14: what is left, by the number of mentions
-module _ (c : tie.After-mentions) where
+module _ (c : tie.In-Mentions) where
   abbrev n : ℕ
-  n = c.mentions.given.0.0
+  n = c.in-Mentions.mentions
 
-  past14 : refuse refused (counted_tests (S c.before.before) (R c.before.before)) Sound
-      ≡ cond (not (times_of (kind_of (R c.before.before)) (period_of (R c.before.before)) (life_of (R c.before.before))))
+  past14 : refuse refused (counted_tests (S c.before) (R c.before)) Sound
+      ≡ cond (not (times_of (kind_of (R c.before)) (period_of (R c.before)) (life_of (R c.before))))
       (refused 15)
-      (cond (not (content_of (kind_of (R c.before.before)) (life_of (R c.before.before)) (eqb n 8) (ltb 0 n)))
+      (cond (not (content_of (kind_of (R c.before)) (life_of (R c.before)) (eqb n 8) (ltb 0 n)))
       (refused 16) Sound)
   past14 =
-      let d = c.before.before in
-      let told = survey_sound (S d) (drop 32 (R d)) n (sym (eight d) ∙ c.mentions.given.1) in
+      let d = c.before in
+      let told = survey_sound (S d) (drop 32 (R d)) n (sym (eight d) ∙ c.in-Mentions.is) in
       counted_is (S d) (R d) ∙ rw (told.0, ← told.1)
 
 -- the times are those of the record
-abbrev mentions-of : tie.After-times-right → tie.After-mentions
-mentions-of t = t.before.before.before.before.before
+abbrev mentions-of : tie.After-times_right → tie.In-Mentions
+mentions-of t = t.before.before.before.before
 
-times : (t : tie.After-times-right) → let r = R (mentions-of t).before.before in
-    t.times-right.result ≡ times_of (kind_of r) (period_of r) (life_of r)
+times : (t : tie.After-times_right) → let r = R (mentions-of t).before in
+    t.times_right.result ≡ times_of (kind_of r) (period_of r) (life_of r)
 times t =
-    t.times-right.ensures
-    ∙ (λ i. times_of (t.before.before.before.byte.ensures i) (t.before.period-of.ensures i)
-    (t.before.before.life-of.ensures i))
+    t.times_right.ensures
+    ∙ (λ i. times_of (t.before.before.before.byte-kind.ensures i) (t.before.period_of.ensures i)
+    (t.before.before.life_of-life.ensures i))
 
 -- and so is the content
-content : (k : tie.After-content-right) → let t = k.before.before in let r = R (mentions-of t).before.before in
-    k.content-right.result ≡ content_of (kind_of r) (life_of r) (eqb (n (mentions-of t)) 8) (ltb 0 (n (mentions-of t)))
+content : (k : tie.After-content_right) → let t = k.before.before in let r = R (mentions-of t).before in
+    k.content_right.result ≡ content_of (kind_of r) (life_of r) (eqb (n (mentions-of t)) 8) (ltb 0 (n (mentions-of t)))
 content k =
     let t = k.before.before in
-    k.content-right.ensures
-    ∙ (λ i. content_of (t.before.before.before.byte.ensures i) (t.before.before.life-of.ensures i)
+    k.content_right.ensures
+    ∙ (λ i. content_of (t.before.before.before.byte-kind.ensures i) (t.before.before.life_of-life.ensures i)
     (eqb (n (mentions-of t)) 8) (ltb 0 (n (mentions-of t))))
 
-returns : tie.Need-returns
+returns : tie.Need-returns-in_default
 returns c =
-    let d = c.before.before in
-    let told = c.enum_told.given in
-    sym (counted_is (S d) (R d) ∙ rw (survey_bad (S d) (drop 32 (R d)) told.0.0 (sym (eight d) ∙ told.1)))
+    let d = c.before in
+    sym (counted_is (S d) (R d) ∙ rw (survey_bad (S d) (drop 32 (R d)) c.in_default.field-0 (sym (eight d) ∙ c.in_default.is)))
 
-returns-2 : tie.Need-returns-2
+returns-2 : tie.Need-returns-then-not-times_right
 returns-2 c =
     let t = c.before in
-    sym (past14 (mentions-of t) ∙ rw (sym (times t) ∙ not-true _ c.if1.true))
+    sym (past14 (mentions-of t) ∙ rw (sym (times t) ∙ c.if-not-times_right.true))
 
-returns-3 : tie.Need-returns-3
+returns-3 : tie.Need-returns-then-not-content_right
 returns-3 c =
     let k = c.before in
     let t = k.before.before in
     sym (past14 (mentions-of t)
-    ∙ rw (sym (times t) ∙ not-false _ k.before.if1.false, sym (content k) ∙ not-true _ c.if2.true))
+    ∙ rw (sym (times t) ∙ k.before.if-not-times_right.false, sym (content k) ∙ c.if-not-content_right.true))
 
-returns-4 : tie.Need-returns-4
+returns-4 : tie.Need-returns
 returns-4 c =
     let k = c.before in
     let t = k.before.before in
     sym (past14 (mentions-of t)
-    ∙ rw (sym (times t) ∙ not-false _ k.before.if1.false, sym (content k) ∙ not-false _ c.if2.false))
+    ∙ rw (sym (times t) ∙ k.before.if-not-times_right.false, sym (content k) ∙ c.if-not-content_right.false))
 
 pub check_counted_spec : {M : Type 1} → statement M
 check_counted_spec =

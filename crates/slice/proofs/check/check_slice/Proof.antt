@@ -32,46 +32,46 @@ F s = s.args.feature.now
 abbrev Answer : tie.Start → Checked
 Answer s = check_slice (S s) (F s) s.args.side (B s)
 
-abbrev s1 : tie.Else1 → tie.Start
+abbrev s1 : tie.Else-not-is_sized → tie.Start
 s1 c = c.before.before.before.before
 
-size : (c : tie.Else1) → length (B (s1 c)) ≡ slice_size (S (s1 c))
-size c = eqb-true _ _ (sym c.before.is-sized.ensures ∙ not-false _ c.if1.false)
+size : (c : tie.Else-not-is_sized) → length (B (s1 c)) ≡ slice_size (S (s1 c))
+size c = eqb-true _ _ (sym c.before.is_sized.ensures ∙ c.if-not-is_sized.false)
 
 -- past 9: what is left of the check
-past9 : (c : tie.Else1) → Answer (s1 c)
+past9 : (c : tie.Else-not-is_sized) → Answer (s1 c)
     ≡ cond (not (same_bytes (take 16 (B (s1 c))) (F (s1 c)))) (refused 10)
     (refuse refused (record_tests (S (s1 c)) (s1 c).args.side (drop 16 (B (s1 c)))) Sound)
 past9 c = slice_is _ _ _ _ ∙ rw (eq-eqb _ _ (size c))
 
 -- what is left after the feature is a record
-record-size : (c : tie.Else1) → length (drop 16 (B (s1 c))) ≡ record_size (S (s1 c))
+record-size : (c : tie.Else-not-is_sized) → length (drop 16 (B (s1 c))) ≡ record_size (S (s1 c))
 record-size c = length-drop 16 (B (s1 c)) ∙ omega (arith, size c)
 
-returns : tie.Need-returns
+returns : tie.Need-returns-then-not-is_sized
 returns c =
-    ap checked_reply (sym (slice_is _ _ _ _ ∙ rw (sym c.before.is-sized.ensures ∙ not-true _ c.if1.true)))
+    ap checked_reply (sym (slice_is _ _ _ _ ∙ rw (sym c.before.is_sized.ensures ∙ c.if-not-is_sized.true)))
 
-returns-2 : tie.Need-returns-2
+returns-2 : tie.Need-returns-then-not-same
 returns-2 c =
     let m = c.before in
-    ap checked_reply (sym (past9 m.before.before ∙ rw (sym m.same.ensures ∙ not-true _ c.if2.true)))
+    ap checked_reply (sym (past9 m.before.before ∙ rw (sym m.same.ensures ∙ c.if-not-same.true)))
 
 -- the review of the one record, in the definition's own numbers
-review : (c : tie.After-check-records) → let m = c.before.before.before in let e = m.before.before in
-    c.check-records.result ≡ stopped 0 (check_record (S (s1 e)) (s1 e).args.side (drop 16 (B (s1 e)))) AllSound
+review : (c : tie.After-check_records) → let m = c.before.before.before in let e = m.before.before in
+    c.check_records.result ≡ stopped 0 (check_record (S (s1 e)) (s1 e).args.side (drop 16 (B (s1 e)))) AllSound
 unfolding review_of
 review c =
     let b = B (s1 c.before.before.before.before.before) in
-    rw (rest_whole 16 b, rest_whole 16 b) at c.check-records.ensures
+    rw (rest_whole 16 b, rest_whole 16 b) at c.check_records.ensures
 
 -- what is left of the check past 10
-past10 : (c : tie.Else2) → let e = c.before.before.before in
+past10 : (c : tie.Else-not-same) → let e = c.before.before.before in
     check_record (S (s1 e)) (s1 e).args.side (drop 16 (B (s1 e))) ≡ Answer (s1 e)
 past10 c =
     let e = c.before.before.before in
     record_is _ _ _ ∙ rw (eq-eqb _ _ (record-size e))
-    (sym (past9 e ∙ rw (sym c.before.same.ensures ∙ not-false _ c.if2.false)))
+    (sym (past9 e ∙ rw (sym c.before.same.ensures ∙ c.if-not-same.false)))
 
 stopped_sound : (c : Checked) → stopped 0 c AllSound ≡ AllSound → c ≡ Sound
 stopped_sound Sound e = refl
@@ -81,15 +81,15 @@ stopped_failing : (c : Checked) (i : ℕ) (f : Refusal) → stopped 0 c AllSound
 stopped_failing Sound i f e = cc
 stopped_failing (Refused g) i f e = cc
 
-returns-3 : tie.Need-returns-3
+returns-3 : tie.Need-returns-in-AllSound
 returns-3 c =
-    let k = c.before.before in
-    ap checked_reply (sym (stopped_sound _ (sym (review k) ∙ c.enum_told.given.1)) ∙ past10 k.before.before)
+    let k = c.before in
+    ap checked_reply (sym (stopped_sound _ (sym (review k) ∙ c.in-AllSound.is)) ∙ past10 k.before.before)
 
-returns-4 : tie.Need-returns-4
+returns-4 : tie.Need-returns-in-Failing
 returns-4 c =
-    let k = c.before.before.before in
-    ap checked_reply (sym (stopped_failing _ _ _ (sym (review k) ∙ c.before.refusal.given.1)) ∙ past10 k.before.before)
+    let k = c.before in
+    ap checked_reply (sym (stopped_failing _ _ _ (sym (review k) ∙ c.in-Failing.is)) ∙ past10 k.before.before)
 
 pub check_slice_spec : {M : Type 1} → statement M
 check_slice_spec =

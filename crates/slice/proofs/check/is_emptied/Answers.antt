@@ -9,27 +9,14 @@ use Rattle.laws.proofs.Lists.{rest_whole}
 use Rattle.octets.specs.Bytes.{filled}
 use Rattle.octets.proofs.Runs.{filled_join, filled_drop}
 use Rattle.slice.specs.Check.{emptied}
-use Rattle.slice.proofs.check.is_emptied.Statement.{statement}
-use Rattle.slice.proofs.check.is_emptied.Tie as tie
+use Rattle.slice.proofs.check.is_emptied.Goals as goal
 
-returns : tie.Need-returns
+pub returns : goal.returns
 unfolding emptied
 returns c =
-    let a = c.before.before.before.before.before.args in
+    let a = c.args in
     let r = a.«record».now in
     let size : length (drop 32 r) ≡ 8 * a.stride = length-drop 32 r ∙ omega arith in
     let rest : c.blank.result ≡ filled 0 (8 * a.stride) r 32 =
     rw (rest_whole 32 r, size) at c.blank.ensures ∙ filled_drop 0 (8 * a.stride) r 32 0 (omega arith) in
-    rw (c.before.before.before.full8.ensures, c.before.before.full82.ensures, rest, filled_join 255 8 8 r 8)
-
-pub is_emptied_spec : {M : Type 1} → statement M
-is_emptied_spec =
-    tie.close
-    (tie.spec
-    (λ c κs. search rules)
-    (λ c κs. search rules)
-    (λ c. search rules)
-    (λ c. search rules)
-    (λ c. search rules)
-    (λ c κs. search rules)
-    returns)
+    rw (c.full8.ensures, c.full8-2.ensures, rest, filled_join 255 8 8 r 8)
