@@ -21,7 +21,7 @@ abbrev held : tie.Start → List ℕ
 held s = get_or (records_of s.args.size s.args.table.now) s.args.at []
 
 abbrev start : tie.After-correction_of-sent → tie.Start
-start c = c.before.before.before.before.before.before
+start c = c.before.before.before.before.before
 
 -- the corrections that were read
 stored : (c : tie.After-correction_of-sent) → c.before.correction_of-stored.result ≡ correction_of (held (start c))
@@ -45,13 +45,13 @@ lower2 c b e =
 
 -- the bytes that were compared
 alike : (c : tie.After-same) (b : Bool) → c.same.result ≡ b
-    → let s = start c.before.before.before.before.before.before.before in same_bytes s.args.«record».now (held s) ≡ b
+    → let s = start c.before.before.before.before.before.before in same_bytes s.args.«record».now (held s) ≡ b
 alike c b e =
-    let s = start c.before.before.before.before.before.before.before in
+    let s = start c.before.before.before.before.before.before in
     ap (same_bytes s.args.«record».now) (sym (c.before.record_at-2.ensures.0 ∙ record_is _ _ _ s.requires.0 s.requires.1))
     ∙ sym c.same.ensures ∙ e
 
-fits : (c : tie.Then-precedes) → let a = (start c.before.before).args in 32 + a.at * a.size + a.size ≤ length a.table-1.now
+fits : (c : tie.Then-precedes) → let a = (start c.before.before).args in 32 + a.at * a.size + a.size ≤ length a.table.now
 fits c = let s = start c.before.before in record_fits s.args.size s.args.table.now s.args.at (omega arith)
 
 returns : tie.Need-returns-then-precedes
@@ -59,7 +59,7 @@ returns c =
     let p = c.before.before in
     let t = p.before.before in
     let s = start t.before.before in
-    let known = t.before.before.before.before.before.before.before.slice_known-1 in (
+    let known = t.before.before.before.before.before.before.slice_known-1 in (
       sym (is_replaced _ _ (lower t.before _ t.if-precedes.true)),
       p.put.ensures ∙ put_over _ _ _ _ _ s.requires.2 refl s.requires.0 s.requires.1 (λ i. (known.given i).fits),
     )
@@ -71,7 +71,7 @@ returns-2 c =
 
 returns-3 : tie.Need-returns-then-same
 returns-3 c =
-    let m = c.before.before.before.before in
+    let m = c.before.before.before in
     let e = m.before.before in (
       sym (is_repeat _ _ (lower e.before _ e.if-precedes.false) (lower2 m.before _ m.if-precedes-2.false)
           (alike c.before _ c.if-same.true)),
@@ -80,7 +80,7 @@ returns-3 c =
 
 returns-4 : tie.Need-returns
 returns-4 c =
-    let m = c.before.before.before.before in
+    let m = c.before.before.before in
     let e = m.before.before in (
       sym (is_17 _ _ (lower e.before _ e.if-precedes.false) (lower2 m.before _ m.if-precedes-2.false)
           (alike c.before _ c.if-same.false)),

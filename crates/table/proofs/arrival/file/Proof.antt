@@ -19,7 +19,7 @@ use Rattle.table.proofs.arrival.file.Statement.{statement}
 use Rattle.table.proofs.arrival.file.Tie as tie
 
 abbrev start : tie.After-is_held → tie.Start
-start c = c.before.before.before.before.before.before.before.before.before
+start c = c.before.before.before.before.before.before
 
 abbrev T : tie.After-is_held → List ℕ
 T c = (start c).args.table.now
@@ -31,14 +31,14 @@ abbrev Rs : tie.After-is_held → List (List ℕ)
 Rs c = records_of (start c).args.size (T c)
 
 -- the place that was come to
-place : (c : tie.After-is_held) → c.before.before.place_of-at.result ≡ place_for (key_of (R c)) (Rs c)
+place : (c : tie.After-is_held) → c.before.place_of-at.result ≡ place_for (key_of (R c)) (Rs c)
 place c =
-    c.before.before.place_of-at.ensures.0
-    ∙ ap (λ (k : Key). place_for k (Rs c)) c.before.before.before.before.key_of-key.ensures
+    c.before.place_of-at.ensures.0
+    ∙ ap (λ (k : Key). place_for k (Rs c)) c.before.before.key_of-key.ensures
 
 told : (c : tie.After-is_held) (b : Bool) → c.is_held.result ≡ b → holds (key_of (R c)) (place_for (key_of (R c)) (Rs c)) (Rs c) ≡ b
 told c b e =
-    sym (c.is_held.ensures ∙ (λ i. holds (c.before.before.before.before.key_of-key.ensures i) (place c i) (Rs c))) ∙ e
+    sym (c.is_held.ensures ∙ (λ i. holds (c.before.before.key_of-key.ensures i) (place c i) (Rs c))) ∙ e
 
 correct-requires : tie.Need-correct-requires
 correct-requires c κs =
@@ -62,7 +62,7 @@ returns c =
 
 returns-2 : tie.Need-returns-then-count-room_of
 returns-2 c =
-    let e = c.before.before.before in
+    let e = c.before.before in
     let k = e.before in
     let full : length (Rs k) ≡ room_of (start k).args.size (T k) =
     omega (arith, records_length (start k).args.size (T k), c.before.room_of.ensures, c.if-count-room_of.true) in
@@ -72,7 +72,7 @@ returns-3 : tie.Need-returns
 returns-3 c =
     let x = c.before.before in
     let f = x.before.before in
-    let e = f.before.before.before in
+    let e = f.before.before in
     let k = e.before in
     let new = told k _ e.if-is_held.false in
     let free : length (Rs k) ≡ room_of (start k).args.size (T k) → ⊥ =
