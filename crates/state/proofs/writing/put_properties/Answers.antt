@@ -11,38 +11,29 @@ use Rattle.table.specs.Header.{stride_of}
 use Rattle.state.specs.Steps.{nothing, property_by, property_from, run_of}
 use Rattle.state.proofs.Pasting.{run_pasted, run_length, pasted_none, from_length}
 use borrow.Author.Rules.{rules}
-use Rattle.state.proofs.writing.put_properties.Statement.{statement}
-use Rattle.state.proofs.writing.put_properties.Tie as tie
+use Rattle.state.proofs.writing.put_properties.Goals as goal
 
-abbrev invariant-loop : tie.invariant-loop
-invariant-loop record₀ permanent temporary start mentions passing n₀ «record» n =
-    (n ≤ 8) × ((length «record» ≡ length record₀)
-    × («record» ≡ pasted record₀ 32 (run_of (property_from permanent temporary start mentions.marks passing) n)))
-
-abbrev decreases-loop : tie.decreases-loop
-decreases-loop record₀ permanent temporary start mentions passing n₀ «record» n = 8 - n
-
-put-latest-requires : tie.Need-put-latest-requires invariant-loop decreases-loop
-put-latest-requires c κs =
+pub put_latest-requires : goal.put_latest-requires
+put_latest-requires c =
     let s = c.before.before.before.before.before.before.before in
     let p = s.requires in
-    let n = c.before.before.before.loop.n in
-    let h = c.before.before.loop-test.true in
+    let n = c.loop-n.n in
+    let h = c.loop-n-test.true in
     (h, record { anchor = p.anchor; whole = p.whole; below = p.below n h; above = p.above n h })
 
-loop-again : tie.Need-loop-preserved invariant-loop decreases-loop
-loop-again c =
+pub loop-n-preserved : goal.loop-n-preserved
+loop-n-preserved c =
     let s = c.before.before.before.before.before.before.before.before.before.before in
     let p = s.requires in
     let a = s.args in
-    let l = c.before.before.before.before.before.before.loop in
-    let h = c.before.before.before.before.before.loop-test.true in
+    let l = c.loop-n in
+    let h = c.loop-n-test.true in
     let f = property_from a.permanent.now a.temporary.now a.start a.t5.marks a.t6 in
     let long =
     from_length a.permanent.now a.temporary.now p.anchor.whole p.whole a.start a.t5.marks a.t6
     p.anchor.below p.below p.above in
     let stride = stride_of a.permanent.now in
-    let e = c.before.before.put-latest.ensures
+    let e = c.put_latest.ensures
     ∙ (ap (λ (d : List ℕ). pasted d (32 + l.n * stride)
     (property_by a.permanent.now a.temporary.now a.start (get_or a.t5.marks l.n nothing) (get_or a.t6 l.n 0)
     l.n)) l.invariant.1.1
@@ -50,28 +41,13 @@ loop-again c =
     (omega (arith, p.sized, piece_within stride l.n 8 h))) in
     (omega arith, (ap length e ∙ pasted_length a.«record».now (run_of f (l.n + 1)) 32, e))
 
-returns : tie.Need-returns invariant-loop decreases-loop
+pub returns : goal.returns
 returns c =
-    let a = c.before.before.before.before.before.args in
-    let e : c.before.loop.n ≡ 8 = omega arith in
-    c.before.loop.invariant.1.1
+    let a = c.args in
+    let e : c.loop-n.n ≡ 8 = omega arith in
+    c.loop-n.invariant.1.1
     ∙ ap (λ (n : ℕ). pasted a.«record».now 32
     (run_of (property_from a.permanent.now a.temporary.now a.start a.t5.marks a.t6) n)) e
 
-pub put_properties_spec : {M : Type 1} → statement M
-put_properties_spec =
-    tie.close
-    (tie.spec
-    invariant-loop
-    decreases-loop
-    (λ c. (omega arith, (refl, pasted_none _ 32 (omega (arith, c.before.before.before.requires.sized)))))
-    (λ c. omega arith)
-    (λ c. omega arith)
-    (λ c. omega arith)
-    (λ c. omega arith)
-    put-latest-requires
-    (λ c. omega arith)
-    (λ c. omega arith)
-    loop-again
-    (λ c. search rules)
-    returns)
+pub loop-n-init : goal.loop-n-init
+loop-n-init c = (omega arith, (refl, pasted_none _ 32 (omega (arith, c.requires.sized))))

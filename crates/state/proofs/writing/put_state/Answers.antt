@@ -11,10 +11,9 @@ use Rattle.state.specs.Written.{state_kind, state_times}
 use Rattle.state.specs.Steps.{property_from, run_of}
 use Rattle.state.proofs.Pasting.{run_length, from_length, whole_pasted}
 use borrow.Author.Rules.{rules}
-use Rattle.state.proofs.writing.put_state.Statement.{statement}
-use Rattle.state.proofs.writing.put_state.Tie as tie
+use Rattle.state.proofs.writing.put_state.Goals as goal
 
-returns : tie.Need-returns
+pub returns : goal.returns
 returns c =
     let s = c.before.before.before.before.before.before.before.before.before.before.before.before in
     let p = s.requires in
@@ -24,14 +23,9 @@ returns c =
     from_length a.permanent.now a.temporary.now p.anchor.whole p.whole a.start a.mentions.marks a.passing
     p.anchor.below p.below p.above in
     let run = run_length f (stride_of a.permanent.now) 8 long in
-    c.before.before.put-properties.ensures
+    c.put_properties.ensures
     ∙ (ap (λ (d : List ℕ). pasted d 32 (run_of f 8))
-    (c.before.before.before.before.before.before.put-head.ensures
+    (c.put_head.ensures
     ∙ ap (λ (l : Life). pasted a.«record».now 0 (state_kind ++ (state_times a.instant l ++ replicate 8 0)))
-    c.before.before.before.before.before.before.before.life-of-state.ensures)
+    c.life_of_state.ensures)
     ∙ whole_pasted a.«record».now _ (run_of f 8) refl (omega (arith, p.sized, run)))
-
-pub put_state_spec : {M : Type 1} → statement M
-put_state_spec =
-    tie.close
-    (tie.spec (λ c κs. search rules) (λ c κs. search rules) (λ c κs. search rules) (λ c. search rules) returns)
