@@ -40,31 +40,31 @@ abbrev made : tie.After-key_of-key → Start
 made c = record {
   based = (asked c).args.based;
   place = (asked c).args.place;
-  begin = c.before.period_of-period.result.begin-1;
+  begin = c.before.period_of-period.result.begin;
   sequence =
-      c.key_of-key.result.sequence-1;
+      c.key_of-key.result.sequence;
 }
 
 made-is : (c : tie.After-key_of-key) → made c ≡ start_at (asked c).args.based (asked c).args.place (anchor c)
 made-is c =
     ap₂ (λ (p : Period)
-    (k : Key). record { based = (asked c).args.based; place = (asked c).args.place; begin = p.begin-1; sequence = k.sequence-1 })
+    (k : Key). record { based = (asked c).args.based; place = (asked c).args.place; begin = p.begin; sequence = k.sequence })
     (c.before.period_of-period.ensures ∙ ap period_of (read c).is) (c.key_of-key.ensures ∙ ap key_of (read c).is)
 
 ended : (c : tie.After-life_at-life)
     → let a = c.before.before.before.before.before.before.before.before.before.before.before.args in
-    c.life_at-life.result.end-1 ≡ ended_at a.instant a.permanent.now (get_or a.t3.marks 9 nothing) a.based a.place
+    c.life_at-life.result.end ≡ ended_at a.instant a.permanent.now (get_or a.t3.marks 9 nothing) a.based a.place
 ended c =
     let a = c.before.before.before.before.before.before.before.before.before.before.before.args in
     let k = c.before.before.before.before.before in
     let m = get_or a.t3.marks 9 nothing in
-    ap (λ (l : Life). l.end-1) (c.life_at-life.ensures
+    ap (λ (l : Life). l.end) (c.life_at-life.ensures
     ∙ (ap (λ (k : ℕ). life_at k a.permanent.now c.before.origin.result)
     c.before.before.before.before.before.before.before.before.record_size-size.ensures
     ∙ ap (life_at (record_size (stride_of a.permanent.now)) a.permanent.now)
     (c.before.origin.ensures ∙ ap₂ (λ (s : Start) (v : Slice). origin_of s (tells 9 v) m) (made-is k) (read k).seen)))
 
-test : (c : tie.After-at_most) → let end = c.before.before.before.life_at-life.result.end-1 in
+test : (c : tie.After-at_most) → let end = c.before.before.before.life_at-life.result.end in
     (not c.before.is_none.result && c.at_most.result)
     ≡ (given end
     && at_most end

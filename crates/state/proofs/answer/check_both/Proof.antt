@@ -61,7 +61,7 @@ check_both_spec =
     (λ c κs. search rules)
     (λ c. search rules)
     (λ c. both_first _ _ _
-    (sym (checked_told _ _ c.before.before.before.check_table.ensures) ∙ c.before.refusal-1.given.1))
+    (sym (checked_told _ _ c.before.check_table.ensures) ∙ c.before.refusal-1.given.1))
     (λ c. search rules)
     (λ c κs. search rules)
     (λ c. search rules)

@@ -78,7 +78,7 @@ returns : tie.Need-returns-in-Refused
 returns c = (
   ap outcome_reply
       (state_refused _ _ _ _
-      (sym (checked_told _ _ c.before.before.before.check_table.ensures) ∙ c.before.refusal-1.given.1)),
+      (sym (checked_told _ _ c.before.check_table.ensures) ∙ c.before.refusal-1.given.1)),
   refl,
 )
 

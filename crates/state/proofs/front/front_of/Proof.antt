@@ -103,16 +103,16 @@ loop-again c =
         ⊎_elim
             (λ x. keeps_turn (base_with t) (λ b. b) l.bases _ (all k) (place k) (here k) _ _ (next k)
             (λ b. held_with t (place k) (here k).period (closed_by (here k).period.begin b))
-            (base_turn t (place k) (here k) (sym (told c.before) ∙ x.0.true))
-            (x.4
-            ∙ (x.3.ensures
-            ∙ (ap (λ (b : Bases). held_with t (place k) x.1.result b) x.2.ensures
+            (base_turn t (place k) (here k) (sym (told c.before) ∙ x.if-is_begun.true))
+            (x.held_with-bases
+            ∙ (x.closed_by.ensures
+            ∙ (ap (λ (b : Bases). held_with t (place k) x.period_of-period.result b) x.closed_by-arg-1.ensures
             ∙ ap (λ (p : Period). held_with t (place k) p (closed_by p.begin l.bases))
-            (x.1.ensures ∙ ap period_of (read k)))))
+            (x.period_of-period.ensures ∙ ap period_of (read k)))))
             l.invariant.1.0)
             (λ x. keeps_past (base_with t) (λ b. b) l.bases _ (all k) (place k) (here k) _ _ (next k)
-            (base_past t (place k) (here k) (sym (told c.before) ∙ x.0.false)) x.1 l.invariant.1.0)
-            c.if-is_begun.branch,
+            (base_past t (place k) (here k) (sym (told c.before) ∙ x.if-is_begun.false)) x.bases-is l.invariant.1.0)
+            c.if-is_begun.branch-raw,
         λ j d h.
             by-test (eqb j (place k))
             (λ y. let e : j ≡ place k = omega tests in

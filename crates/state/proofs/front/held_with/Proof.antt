@@ -13,19 +13,19 @@ abbrev start : tie.Else-not-precedes → tie.Start
 start k = k.before.before.before.before.before
 
 -- the instant is before the end
-here : (k : tie.Else-not-precedes) → before (start k).args.instant (start k).args.period.end-1 ≡ true
+here : (k : tie.Else-not-precedes) → before (start k).args.instant (start k).args.period.end ≡ true
 here k = sym k.before.precedes.ensures ∙ k.if-not-precedes.false
 
 returns-2 : tie.Need-returns-then-not-is_none
 returns-2 c =
     let k = c.before.before.before in
-    ap (λ (f : Few). record { fixed = f; last = (start k).args.bases.last-1; endless = (start k).args.bases.endless }) c.tallied-fixed.ensures
+    ap (λ (f : Few). record { fixed = f; last = (start k).args.bases.last; endless = (start k).args.bases.endless }) c.tallied-fixed.ensures
     ∙ held_fixed _ _ _ _ (here k) (sym c.before.before.is_none.ensures ∙ c.before.if-not-is_none.true)
 
 returns-3 : tie.Need-returns-then-is
 returns-3 c =
     let k = c.before.before.before.before.before in
-    ap (λ (f : Few). record { fixed = (start k).args.bases.fixed; last = (start k).args.bases.last-1; endless = f }) c.tallied-endless.ensures
+    ap (λ (f : Few). record { fixed = (start k).args.bases.fixed; last = (start k).args.bases.last; endless = f }) c.tallied-endless.ensures
     ∙ held_endless _ _ _ _ (here k) (sym c.before.before.before.before.is_none.ensures ∙ c.before.before.before.if-not-is_none.false)
     (sym c.before.before.is.ensures ∙ c.before.if-is.true)
 

@@ -102,9 +102,9 @@ loop2-again c =
         noted_turn 0 0 (step k) k.before.before.loop-i.places ms n c.if-mentions.places (omega arith)
             (omega (arith, l.loop-n.invariant.1.0)) l.loop-n.invariant.1.1
             (⊎_elim
-            (λ x. x.1 ∙ ap (λ b. cond b (place k + 1) (get_or ms n 0)) (sym x.0.true ∙ c.before.mentions.ensures))
-            (λ x. x.1 ∙ ap (λ b. cond b (place k + 1) (get_or ms n 0)) (sym x.0.false ∙ c.before.mentions.ensures))
-            c.if-mentions.branch),
+            (λ x. x.places-is ∙ ap (λ b. cond b (place k + 1) (get_or ms n 0)) (sym x.if-mentions.true ∙ c.before.mentions.ensures))
+            (λ x. x.places-is ∙ ap (λ b. cond b (place k + 1) (get_or ms n 0)) (sym x.if-mentions.false ∙ c.before.mentions.ensures))
+            c.if-mentions.branch-raw),
       ),
     )
 
@@ -116,29 +116,29 @@ loop-again c =
       omega arith,
       ⊎_elim
           (λ x. (
-            ap length x.3 ∙ x.1.invariant.1.0,
+            ap length x.places-is ∙ x.loop-n.invariant.1.0,
             λ q h.
                 keeps_turn (latest_with (λ a b. true) (λ d. valid t d && tells q d)) place_and_one (get_or l.places q 0) _
                 (latest_valid q t (slices_of (table k))) (place k) (here k) _ _ (next k)
                 (λ m. cond (tells q (here k)) (place k + 1) m)
-                (place_turn (valid t) q (place k) (here k) (sym (told c.before) ∙ x.0.true))
-                (ap (λ (z : List ℕ). get_or z q 0) x.3
-                ∙ (noted_end 0 0 (step k) l.places x.1.places x.1.n 8 q x.1.invariant.0 x.2.false
-                (among_in 0 8 q (omega arith) h) x.1.invariant.1.1
+                (place_turn (valid t) q (place k) (here k) (sym (told c.before) ∙ x.if-is_holding.true))
+                (ap (λ (z : List ℕ). get_or z q 0) x.places-is
+                ∙ (noted_end 0 0 (step k) l.places x.loop-n.places x.loop-n.n 8 q x.loop-n.invariant.0 x.loop-n-test.false
+                (among_in 0 8 q (omega arith) h) x.loop-n.invariant.1.1
                 ∙ ap (λ (d : Slice). cond (tells q d) (place k + 1) (get_or l.places q 0)) (read k).seen))
                 (l.invariant.1.1 q h),
           ))
           (λ x. (
-            ap length x.1 ∙ l.invariant.1.0,
+            ap length x.places-is ∙ l.invariant.1.0,
             λ q h.
                 keeps_past (latest_with (λ a b. true) (λ d. valid t d && tells q d)) place_and_one (get_or l.places q 0) _
                 (latest_valid q t (slices_of (table k))) (place k) (here k) _ _ (next k)
                 (latest_past (λ a b. true) (λ d. valid t d && tells q d) (place k) (here k)
-                (ap (λ b. b && tells q (here k)) (sym (told c.before) ∙ x.0.false)))
-                (ap (λ (z : List ℕ). get_or z q 0) x.1)
+                (ap (λ b. b && tells q (here k)) (sym (told c.before) ∙ x.if-is_holding.false)))
+                (ap (λ (z : List ℕ). get_or z q 0) x.places-is)
                 (l.invariant.1.1 q h),
           ))
-          c.if-is_holding.branch,
+          c.if-is_holding.branch-raw,
     )
 
 returns : tie.Need-returns invariant-loop2 decreases-loop2 invariant-loop decreases-loop

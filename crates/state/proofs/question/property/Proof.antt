@@ -21,7 +21,7 @@ made : (x : Bor (List ℕ)) (at s n : ℕ) → s ≡ n
 made x at s n e = let z : at + s - at ≡ n = omega arith in rw z
 
 within : (c : tie.After-stride_of)
-    → c.before.before.at-1.given.0.0 + stride_of
+    → c.at-1.given.0.0 + stride_of
     c.before.before.before.before.before.before.before.args.permanent.now ≤ length
     c.before.before.before.before.before.before.before.args.permanent.now
 within c =
@@ -31,7 +31,7 @@ within c =
     (sym (place_told _ _ c.before.before.before.before.locate.ensures) ∙ c.before.before.at-1.given.1)
 
 within2 : (c : tie.After-stride_of-in-Temporary)
-    → c.before.before.at-in-Temporary-1.given.0.0 + stride_of
+    → c.at-in-Temporary-1.given.0.0 + stride_of
     c.before.before.before.before.before.before.before.args.temporary.now ≤ length
     c.before.before.before.before.before.before.before.args.temporary.now
 within2 c =
@@ -43,7 +43,7 @@ within2 c =
 returns : tie.Need-returns-in-Permanent
 returns c =
     let a = c.before.before.before.before.before.before.before.before.args in
-    made a.permanent c.before.before.before.at-1.given.0.0 c.before.stride_of.result-1 (stride_of a.permanent.now)
+    made a.permanent c.before.before.before.at-1.given.0.0 c.before.stride_of.result (stride_of a.permanent.now)
     c.before.stride_of.ensures
     ∙ ap (λ (z : Place). handed z a.permanent a.temporary)
     (sym c.before.before.before.at-1.given.1 ∙ place_told _ _ c.before.before.before.before.before.locate.ensures)
@@ -51,7 +51,7 @@ returns c =
 returns-2 : tie.Need-returns-in-Temporary
 returns-2 c =
     let a = c.before.before.before.before.before.before.before.before.args in
-    made a.temporary c.before.before.before.at-in-Temporary-1.given.0.0 c.before.stride_of-in-Temporary.result-1 (stride_of a.temporary.now)
+    made a.temporary c.before.before.before.at-in-Temporary-1.given.0.0 c.before.stride_of-in-Temporary.result (stride_of a.temporary.now)
     c.before.stride_of-in-Temporary.ensures
     ∙ ap (λ (z : Place). handed z a.permanent a.temporary)
     (sym c.before.before.before.at-in-Temporary-1.given.1 ∙ place_told _ _ c.before.before.before.before.before.locate.ensures)

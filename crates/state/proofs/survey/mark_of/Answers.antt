@@ -16,5 +16,5 @@ returns c =
       from = c.args.place + 1;
       instant = p.begin;
       sequence =
-          k.sequence-1;
+          k.sequence;
     }) c.period_of-period.ensures c.key_of-key.ensures

@@ -184,40 +184,40 @@ loop-again c =
     let f = is_opening k in (
       omega arith,
       ⊎_elim
-          (λ x. let y : is_due k (here k) ≡ true = sym (told c.before) ∙ x.0.true in
-          let o : f (here k) ≡ x.1.result = opens_told s t (here k) true y ∙ sym (x.1.ensures ∙ ap (tells 8) (read k).seen) in (
+          (λ x. let y : is_due k (here k) ≡ true = sym (told c.before) ∙ x.if-is_due.true in
+          let o : f (here k) ≡ x.gives.result = opens_told s t (here k) true y ∙ sym (x.gives.ensures ∙ ap (tells 8) (read k).seen) in (
             ⊎_elim
                 (λ z. keeps_turn (tally_with f) (λ few. few) l.openings _ (all k) (place k) (here k) _ _ (next k)
-                (one_more (place k)) (tally_turn f (place k) (here k) (o ∙ z.0.true)) (x.12 ∙ (z.2 ∙ z.1.ensures))
+                (one_more (place k)) (tally_turn f (place k) (here k) (o ∙ z.if-gives.true)) (x.latest-is ∙ (z.2 ∙ z.tallied-openings.ensures))
                 l.invariant.1.0)
                 (λ z. keeps_past (tally_with f) (λ few. few) l.openings _ (all k) (place k) (here k) _ _ (next k)
-                (tally_past f (place k) (here k) (o ∙ z.0.false)) (x.12 ∙ z.1) l.invariant.1.0)
-                x.2.came,
+                (tally_past f (place k) (here k) (o ∙ z.if-gives.false)) (x.latest-is ∙ z.1) l.invariant.1.0)
+                x.if-gives.branch-raw,
             (
               ap (λ (z : Latest). length z.marks) x.13
-                  ∙ (length-set (set x.4.latest.marks 8 x.8.result) 9 x.11.result
-                  ∙ (length-set x.4.latest.marks 8 x.8.result ∙ x.4.invariant.1.1.0)),
+                  ∙ (length-set (set x.loop-part.latest.marks 8 x.later-then-is_due.result) 9 x.later-then-is_due-2.result
+                  ∙ (length-set x.loop-part.latest.marks 8 x.later-then-is_due.result ∙ x.loop-part.invariant.1.1.0)),
               λ q w.
                   keeps_turn (latest_with later_turn (λ d. is_due k d && tells q d)) mark_due (get_or l.latest.marks q nothing) _
                   (latest_due q s t (slices_of (table k))) (place k) (here k) _ _ (next k)
                   (λ m. later_of (tells q (here k)) (mark_of (place k) (here k)) m)
                   (mark_turn (is_due k) q (place k) (here k) y)
                   (ap (λ (z : Latest). get_or z.marks q nothing) x.13
-                  ∙ (all_noted k x.3.result x.8.result x.11.result l.latest.marks x.4.latest.marks x.4.part
-                  x.4.invariant.1.0 x.5.false x.4.invariant.1.1.0 x.4.invariant.1.1.1
-                  (x.8.ensures ∙ ap (λ b. later_of b x.3.result (get_or x.4.latest.marks 8 nothing)) x.7.ensures)
-                  (x.11.ensures
-                  ∙ ap (λ b. later_of b x.3.result (get_or (set x.4.latest.marks 8 x.8.result) 9 nothing))
-                  x.10.ensures) q w
-                  ∙ (ap (λ (m : Mark). step k m q (get_or l.latest.marks q nothing)) (x.3.ensures (stride k))
+                  ∙ (all_noted k x.mark_of-new.result x.later-then-is_due.result x.later-then-is_due-2.result l.latest.marks x.loop-part.latest.marks x.loop-part.part
+                  x.loop-part.invariant.1.0 x.loop-part-test.false x.loop-part.invariant.1.1.0 x.loop-part.invariant.1.1.1
+                  (x.later-then-is_due.ensures ∙ ap (λ b. later_of b x.mark_of-new.result (get_or x.loop-part.latest.marks 8 nothing)) x.gives-then-is_due.ensures)
+                  (x.later-then-is_due-2.ensures
+                  ∙ ap (λ b. later_of b x.mark_of-new.result (get_or (set x.loop-part.latest.marks 8 x.later-then-is_due.result) 9 nothing))
+                  x.gives-then-is_due-2.ensures) q w
+                  ∙ (ap (λ (m : Mark). step k m q (get_or l.latest.marks q nothing)) (x.mark_of-new.ensures (stride k))
                   ∙ ap (λ (d : Slice). later_of (tells q d) (mark_of (place k) d) (get_or l.latest.marks q nothing))
                   (read k).seen)))
                   (l.invariant.1.1.1 q w),
             ),
           ))
-          (λ x. let n : is_due k (here k) ≡ false = sym (told c.before) ∙ x.0.false in (
+          (λ x. let n : is_due k (here k) ≡ false = sym (told c.before) ∙ x.if-is_due.false in (
             keeps_past (tally_with f) (λ few. few) l.openings _ (all k) (place k) (here k) _ _ (next k)
-                (tally_past f (place k) (here k) (opens_told s t (here k) false n)) x.1 l.invariant.1.0,
+                (tally_past f (place k) (here k) (opens_told s t (here k) false n)) x.latest-is l.invariant.1.0,
             (
               ap (λ (z : Latest). length z.marks) x.2 ∙ l.invariant.1.1.0,
               λ q w.
@@ -228,7 +228,7 @@ loop-again c =
                   (l.invariant.1.1.1 q w),
             ),
           ))
-          c.if-is_due.branch,
+          c.if-is_due.branch-raw,
     )
 
 returns : tie.Need-returns invariant-loop2 decreases-loop2 invariant-loop decreases-loop

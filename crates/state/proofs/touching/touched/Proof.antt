@@ -37,7 +37,7 @@ small c =
 
 returns : tie.Need-returns-in-Refused
 returns c =
-    let checked = checked_told _ _ c.before.before.before.check_table.ensures in
+    let checked = checked_told _ _ c.before.check_table.ensures in
     ap touched_reply (touched_refused _ _ _ _ (sym checked ∙ c.before.refusal-1.given.1))
 
 returns-3 : tie.Need-returns

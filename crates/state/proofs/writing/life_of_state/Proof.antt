@@ -45,7 +45,7 @@ told k q l o e f =
 returns : tie.Need-returns
 returns c =
     let k = c.before.before.before.before.before.before.before.before in
-    ap₂ (λ (b e : Life). record { begin = b.begin-1; end = e.end-1 })
+    ap₂ (λ (b e : Life). record { begin = b.begin; end = e.end })
     (told k 8 c.before.before.before.before.life_at-born.result c.before.before.before.before.before.origin.result
     c.before.before.before.before.life_at-born.ensures c.before.before.before.before.before.origin.ensures)
     (told k 9 c.before.before.life_at-gone.result c.before.before.before.origin-2.result
