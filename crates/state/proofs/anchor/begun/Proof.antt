@@ -53,11 +53,11 @@ made-is c =
 
 ended : (c : tie.After-life_at-life)
     → let a = c.before.before.before.before.before.before.before.before.before.before.before.args in
-    c.life_at-life.result.end ≡ ended_at a.instant a.permanent.now (get_or a.t3.marks 9 nothing) a.based a.place
+    c.life_at-life.result.end ≡ ended_at a.instant a.permanent.now (get_or a.mentions.marks 9 nothing) a.based a.place
 ended c =
     let a = c.before.before.before.before.before.before.before.before.before.before.before.args in
     let k = c.before.before.before.before.before in
-    let m = get_or a.t3.marks 9 nothing in
+    let m = get_or a.mentions.marks 9 nothing in
     ap (λ (l : Life). l.end) (c.life_at-life.ensures
     ∙ (ap (λ (k : ℕ). life_at k a.permanent.now c.before.origin.result)
     c.before.before.before.before.before.before.before.before.record_size-size.ensures
