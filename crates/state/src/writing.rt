@@ -95,7 +95,7 @@ fn put_latest(
     requires { (n < 8) × Told permanent.now temporary.now start under over }
     ensures { «record».new
         ≡ pasted «record».old (32 + n * stride_of permanent.now)
-        (propertyBy permanent.now temporary.now start under over n) }
+        (property_by permanent.now temporary.now start under over n) }
 {
     if over != 0 {
         put_property(record, temporary, n, over);
@@ -119,7 +119,7 @@ fn put_properties(
     requires { Ready «record».old permanent.now temporary.now start mentions.marks passing }
     ensures { «record».new
         ≡ pasted «record».old 32
-        (run_of (propertyFrom permanent.now temporary.now start mentions.marks passing) 8) }
+        (run_of (property_from permanent.now temporary.now start mentions.marks passing) 8) }
 {
     let mut n = 0;
     while n < 8 {
@@ -144,7 +144,7 @@ pub(crate) fn put_state(
     ensures { «record».new
         ≡ state_kind ++ (state_times instant (life_from permanent.now start mentions.marks)
         ++ (replicate 8 0
-        ++ run_of (propertyFrom permanent.now temporary.now start mentions.marks passing) 8)) }
+        ++ run_of (property_from permanent.now temporary.now start mentions.marks passing) 8)) }
 {
     put_head(record, instant, life_of_state(permanent, start, mentions));
     put_properties(record, permanent, temporary, start, mentions, passing);

@@ -118,7 +118,7 @@ fn file(table: &mut [u8], size: usize, record: &[u8]) -> Arrival
 pub fn arrive(table: &mut [u8], slice: &[u8]) -> Arrival
     ensures answer { arrival_reply result ≡ arrival_reply (arrival_of table.old slice.now) }
     ensures buffer { table.new ≡ after result (record_size (stride_of table.old)) table.old
-        (recordOf slice.now) }
+        (record_of slice.now) }
 {
     if let Checked::Refused(refusal) = check_table(table, Sides::Both) {
         return Arrival::Refused(refusal);

@@ -62,7 +62,7 @@ fn put_end(s: &mut [u8], at: usize, end: Instant) -> usize
 fn put_period(s: &mut [u8], at: usize, period: Period) -> usize
     requires { at + 22 ≤ length s.old }
     ensures { Wrote 22 s.old at
-        ((decimalOf period.begin.0 ++ (32 ∷ [])) ++ (end_of period.end ++ (32 ∷ [])))
+        ((decimal_of period.begin.0 ++ (32 ∷ [])) ++ (end_of period.end ++ (32 ∷ [])))
         s.new result }
 {
     let begin = period.begin;
@@ -104,7 +104,7 @@ fn put_lines(s: &mut [u8], at: usize, table: &[u8]) -> usize
     requires { Whole table.now × (at + 42 * count_of table.now ≤ length s.old) }
     ensures { Wrote (42 * count_of table.now) s.old at
         (joined (map (line_of (stride_of table.now))
-        (recordsOf (recordSize (stride_of table.now)) table.now)))
+        (records_of (record_size (stride_of table.now)) table.now)))
         s.new result }
 {
     let stride = stride_of(table);
@@ -123,8 +123,8 @@ fn put_lines(s: &mut [u8], at: usize, table: &[u8]) -> usize
 pub(crate) fn put_derived(s: &mut [u8], table: &[u8]) -> usize
     requires { Whole table.now × (10771 ≤ length s.old) }
     ensures { Wrote 10771 s.old 0
-        (text_of (Derived (countOf table.now)) (stride_of table.now)
-        (recordsOf (recordSize (stride_of table.now)) table.now))
+        (text_of (Derived (count_of table.now)) (stride_of table.now)
+        (records_of (record_size (stride_of table.now)) table.now))
         s.new result }
 {
     let first = put_letters(s, 0, b"derived ");

@@ -93,7 +93,7 @@ pub extern "C" fn tsl_permanent_state(permanent: &[u8], instant: u32, record: &m
         ≡ numbers_of (outcome_reply (permanent_state_of permanent.now (instant_of instant) «record».old)) }
     ensures buffer { «record».new
         ≡ after_state (permanent_state_of permanent.now (instant_of instant) «record».old)
-        permanent.now (instantOf instant) «record».old }
+        permanent.now (instant_of instant) «record».old }
 {
     told(permanent_state(permanent, Instant(instant), record))
 }
@@ -109,10 +109,10 @@ pub extern "C" fn tsl_snapshot(
 ) -> Answer
     ensures answer { result
         ≡ numbers_of
-        (outcomeReply (snapshotOf permanent.now temporary.now (instantOf instant) «record».old)) }
+        (outcome_reply (snapshot_of permanent.now temporary.now (instant_of instant) «record».old)) }
     ensures buffer { «record».new ≡ after_snapshot
-        (snapshotOf permanent.now temporary.now (instantOf instant) «record».old)
-        permanent.now temporary.now (instantOf instant) «record».old }
+        (snapshot_of permanent.now temporary.now (instant_of instant) «record».old)
+        permanent.now temporary.now (instant_of instant) «record».old }
 {
     told(snapshot(permanent, temporary, Instant(instant), record))
 }
@@ -142,7 +142,7 @@ pub extern "C" fn tsl_property(
     property: u8,
 ) -> Part
     ensures { result ≡ part_of permanent.now temporary.now
-        (placeReply (place_of permanent.now temporary.now (instantOf instant) property)) }
+        (place_reply (place_of permanent.now temporary.now (instant_of instant) property)) }
 {
     match locate(permanent, temporary, Instant(instant), property) {
         Place::Permanent(place) => part_at(1, permanent, place),
@@ -215,7 +215,7 @@ pub extern "C" fn tsl_derive(permanent: &[u8], output: &mut [u8]) -> Answer
 pub extern "C" fn tsl_listing(permanent: &[u8], text: &mut [u8]) -> Answer
     ensures answer { result ≡ numbers_of (listing_reply (put_of (listing_of permanent.now) text.old)) }
     ensures buffer { text.new ≡ after_put (put_of (listing_of permanent.now) text.old)
-        (listingOf permanent.now) text.old }
+        (listing_of permanent.now) text.old }
 {
     match list(permanent, text) {
         Listing::Text(length) => Answer {

@@ -21,50 +21,50 @@ use borrow.Author.Rules.{rules}
 use Rattle.state.proofs.anchor.begun.Statement.{statement}
 use Rattle.state.proofs.anchor.begun.Tie as tie
 
-abbrev asked : tie.After-key-of → tie.Start
+abbrev asked : tie.After-key_of-key → tie.Start
 asked c = c.before.before.before.before.before.before
 
-abbrev anchor : tie.After-key-of → List ℕ
+abbrev anchor : tie.After-key_of-key → List ℕ
 anchor c = let a = (asked c).args in record_at (record_size (stride_of a.permanent.now)) a.place a.permanent.now
 
-read : (c : tie.After-key-of)
-    → Read (asked c).args.permanent.now (asked c).args.place c.before.before.before.before.stride-of.result
-    c.before.before.record-at.result.now
+read : (c : tie.After-key_of-key)
+    → Read (asked c).args.permanent.now (asked c).args.place c.before.before.before.before.stride_of-stride.result
+    c.before.before.record_at-anchor.result.now
 read c =
     let s = asked c in
-    read_here s.args.permanent.now s.args.place c.before.before.before.record-size.ensures
-    c.before.before.record-at.ensures.0 c.before.before.before.before.stride-of.ensures s.pre.1.whole
-    s.pre.1.below
+    read_here s.args.permanent.now s.args.place c.before.before.before.record_size-size.ensures
+    c.before.before.record_at-anchor.ensures.0 c.before.before.before.before.stride_of-stride.ensures s.requires.1.whole
+    s.requires.1.below
 
-abbrev made : tie.After-key-of → Start
+abbrev made : tie.After-key_of-key → Start
 made c = record {
   based = (asked c).args.based;
   place = (asked c).args.place;
-  begin = c.before.period-of.result.begin;
+  begin = c.before.period_of-period.result.begin;
   sequence =
-      c.key_of_lem.result.sequence;
+      c.key_of-key.result.sequence;
 }
 
-made-is : (c : tie.After-key-of) → made c ≡ start_at (asked c).args.based (asked c).args.place (anchor c)
+made-is : (c : tie.After-key_of-key) → made c ≡ start_at (asked c).args.based (asked c).args.place (anchor c)
 made-is c =
     ap₂ (λ (p : Period)
     (k : Key). record { based = (asked c).args.based; place = (asked c).args.place; begin = p.begin; sequence = k.sequence })
-    (c.before.period-of.ensures ∙ ap period_of (read c).is) (c.key_of_lem.ensures ∙ ap key_of (read c).is)
+    (c.before.period_of-period.ensures ∙ ap period_of (read c).is) (c.key_of-key.ensures ∙ ap key_of (read c).is)
 
-ended : (c : tie.After-life-at)
+ended : (c : tie.After-life_at-life)
     → let a = c.before.before.before.before.before.before.before.before.before.before.before.args in
-    c.life-at.result.end ≡ ended_at a.instant a.permanent.now (get_or a.t3.marks 9 nothing) a.based a.place
+    c.life_at-life.result.end ≡ ended_at a.instant a.permanent.now (get_or a.t3.marks 9 nothing) a.based a.place
 ended c =
     let a = c.before.before.before.before.before.before.before.before.before.before.before.args in
     let k = c.before.before.before.before.before in
     let m = get_or a.t3.marks 9 nothing in
-    ap (λ (l : Life). l.end) (c.life-at.ensures
+    ap (λ (l : Life). l.end) (c.life_at-life.ensures
     ∙ (ap (λ (k : ℕ). life_at k a.permanent.now c.before.origin.result)
-    c.before.before.before.before.before.before.before.before.record-size.ensures
+    c.before.before.before.before.before.before.before.before.record_size-size.ensures
     ∙ ap (life_at (record_size (stride_of a.permanent.now)) a.permanent.now)
     (c.before.origin.ensures ∙ ap₂ (λ (s : Start) (v : Slice). origin_of s (tells 9 v) m) (made-is k) (read k).seen)))
 
-test : (c : tie.After-at-most) → let end = c.before.before.before.life-at.result.end in
+test : (c : tie.After-at_most) → let end = c.before.before.before.life_at-life.result.end in
     (not c.before.is_none.result && c.at_most.result)
     ≡ (given end
     && at_most end
@@ -76,11 +76,11 @@ origin-requires c κs =
     let r = read c.before.before.before in
     (r.sized, (omega arith, r.small))
 
-returns-2 : tie.Need-returns-2
+returns-2 : tie.Need-returns
 returns-2 c =
     found_going _ _ _ _ _ _ (ended c.before.before.before.before)
     (made c.before.before.before.before.before.before.before.before.before)
-    (made-is c.before.before.before.before.before.before.before.before.before) (sym (test c.before) ∙ c.if1.false)
+    (made-is c.before.before.before.before.before.before.before.before.before) (sym (test c.before) ∙ c.if-is_none-at_most.false)
 
 pub begun_spec : {M : Type 1} → statement M
 begun_spec =
@@ -96,5 +96,5 @@ begun_spec =
     (λ c κs. search rules)
     (λ c κs. search rules)
     (λ c κs. search rules)
-    (λ c. found_ended _ _ _ _ _ _ (ended c.before.before.before.before) (sym (test c.before) ∙ c.if1.true))
+    (λ c. found_ended _ _ _ _ _ _ (ended c.before.before.before.before) (sym (test c.before) ∙ c.if-is_none-at_most.true))
     returns-2)

@@ -13,20 +13,20 @@ use borrow.Author.Rules.{rules}
 use Rattle.state.proofs.answer.check_both.Statement.{statement}
 use Rattle.state.proofs.answer.check_both.Tie as tie
 
-first : (c : tie.After-enum-told)
+first : (c : tie.In_default)
     → check_table sides.Permanent c.before.before.before.before.before.args.permanent.now ≡ Sound
-first c = sym (checked_told _ _ c.before.before.check-table.ensures) ∙ c.enum_told.given.1
+first c = sym (checked_told _ _ c.before.before.check_table.ensures) ∙ c.enum_told-1.given.1
 
-second : (c : tie.After-enum-told2)
+second : (c : tie.In_default-check_table)
     → check_table sides.Temporary c.before.before.before.before.before.before.before.before.args.temporary.now ≡ Sound
-second c = sym (checked_told _ _ c.before.before.check-table2.ensures) ∙ c.enum-told2.given.1
+second c = sym (checked_told _ _ c.before.before.check_table-2.ensures) ∙ c.enum_told-in_default-check_table-1.given.1
 
-returns-2 : tie.Need-returns-2
+returns-2 : tie.Need-returns-in-Refused-check_table
 returns-2 c =
     both_second _ _ (first c.before.before.before.before) _
-    (sym (checked_told _ _ c.before.before.before.check-table2.ensures) ∙ c.before.refusal2.given.1)
+    (sym (checked_told _ _ c.before.before.before.check_table-2.ensures) ∙ c.before.refusal-in-Refused-check_table-2-1.given.1)
 
-part-same-end : tie.Need-slice-bounds-same-end
+part-same-end : tie.Need-slice_bounds-same-end
 part-same-end c =
     omega (
       arith,
@@ -35,7 +35,7 @@ part-same-end c =
           (first c.before.before.before)).headed,
     )
 
-part-same-end-2 : tie.Need-slice-bounds-same-end-2
+part-same-end-2 : tie.Need-slice_bounds-same-end-2
 part-same-end-2 c =
     omega (
       arith,
@@ -44,13 +44,13 @@ part-same-end-2 c =
           (second c.before)).headed,
     )
 
-returns-3 : tie.Need-returns-3
-returns-3 c = ap (λ b. cond b (refused 8) Sound) (sym c.if1.true)
+returns-3 : tie.Need-returns-then-not-same
+returns-3 c = ap (λ b. cond b (refused 8) Sound) (sym c.if-not-same.true)
     ∙ both_last _ _ (first c.before.before.before.before.before.before.before)
     (second c.before.before.before.before) _ c.before.same.ensures
 
-returns-4 : tie.Need-returns-4
-returns-4 c = ap (λ b. cond b (refused 8) Sound) (sym c.if1.false)
+returns-4 : tie.Need-returns
+returns-4 c = ap (λ b. cond b (refused 8) Sound) (sym c.if-not-same.false)
     ∙ both_last _ _ (first c.before.before.before.before.before.before.before)
     (second c.before.before.before.before) _ c.before.same.ensures
 
@@ -61,7 +61,7 @@ check_both_spec =
     (λ c κs. search rules)
     (λ c. search rules)
     (λ c. both_first _ _ _
-    (sym (checked_told _ _ c.before.before.before.check-table.ensures) ∙ c.before.refusal.given.1))
+    (sym (checked_told _ _ c.before.check_table.ensures) ∙ c.before.refusal-1.given.1))
     (λ c. search rules)
     (λ c κs. search rules)
     (λ c. search rules)

@@ -26,7 +26,7 @@ use Rattle.state.proofs.answer.permanent_state.Statement.{statement}
 use Rattle.state.proofs.answer.permanent_state.Tie as tie
 
 -- the table is sound
-module _ (c : tie.After-enum-told) where
+module _ (c : tie.In_default) where
   abbrev start : tie.Start
   start = c.before.before.before.before.before
 
@@ -37,69 +37,69 @@ module _ (c : tie.After-enum-told) where
   standing = permanent_at start.args.instant (slices_of table)
 
   checked : check_table sides.Permanent table ≡ Sound
-  checked = sym (checked_told _ _ c.before.before.check-table.ensures) ∙ c.enum_told.given.1
+  checked = sym (checked_told _ _ c.before.before.check_table.ensures) ∙ c.enum_told-1.given.1
 
   walkable : Walkable table
   walkable = sound_walkable table sides.Permanent checked
 
 -- 19 and 23 are past
-fits : (c : tie.Else2)
+fits : (c : tie.Else-record-record_size)
     → let k = c.before.before.before.before in length (start k).args.«record».now ≡ record_size (stride_of (table k))
-fits c = c.if2.false ∙ c.before.record-size.ensures
+fits c = c.if-record-record_size.false ∙ c.before.record_size.ensures
 
-asked : (c : tie.Else2)
+asked : (c : tie.Else-record-record_size)
     → let k = c.before.before.before.before in
     outcome_of (standing k) ≡ permanent_state_of (table k) (start k).args.instant (start k).args.«record».now
 asked c =
     let k = c.before.before.before.before in
-    left_asked _ _ _ (standing k) (sym c.before.before.before.is_none.ensures ∙ c.before.before.if1.false) (fits c)
+    left_asked _ _ _ (standing k) (sym c.before.before.before.is_none.ensures ∙ c.before.before.if-is_none.false) (fits c)
     ∙ state_left _ _ _ (checked k)
 
 -- what was found, and what that settles
-abbrev told : tie.After-survey-permanent → tie.After-enum-told
+abbrev told : tie.After-survey_permanent-found → tie.In_default
 told c = c.before.before.before.before.before
 
-surveyed : (c : tie.After-survey-permanent)
-    → Surveyed (start (told c)).args.instant (table (told c)) 0 8 c.survey-permanent.result
+surveyed : (c : tie.After-survey_permanent-found)
+    → Surveyed (start (told c)).args.instant (table (told c)) 0 8 c.survey_permanent-found.result
 surveyed c =
-    let (bases, (openings, (long, marks))) = c.survey-permanent.ensures in
+    let (bases, (openings, (long, marks))) = c.survey_permanent-found.ensures in
     record { walkable = walkable (told c); bases = bases; openings = openings; long = long; marks = marks }
 
-abbrev Stood : tie.After-survey-permanent → anchor.Standing → Type 0
-Stood k = Settled (since_of (table (told k)) k.survey-permanent.result.bases) (start (told k)).args.instant (table (told k))
+abbrev Stood : tie.After-survey_permanent-found → anchor.Standing → Type 0
+Stood k = Settled (since_of (table (told k)) k.survey_permanent-found.result.bases) (start (told k)).args.instant (table (told k))
 
 stood : (c : tie.After-settle) → Stood c.before c.settle.result
 stood c = settles _ _ _ _ _ (surveyed c.before) _ c.settle.ensures
 
-begun : (c : tie.After-start) → let k = c.before.before.before in Stood k (From c.start.given.0.0)
-begun c = subst (Stood c.before.before.before) c.start.given.1 (stood c.before.before)
+begun : (c : tie.In-From-2) → let k = c.before.before.before in Stood k (From c.start-1.given.0.0)
+begun c = subst (Stood c.before.before.before) c.start-1.given.1 (stood c.before.before)
 
-returns : tie.Need-returns
+returns : tie.Need-returns-in-Refused
 returns c = (
   ap outcome_reply
       (state_refused _ _ _ _
-      (sym (checked_told _ _ c.before.before.before.check-table.ensures) ∙ c.before.refusal.given.1)),
+      (sym (checked_told _ _ c.before.check_table.ensures) ∙ c.before.refusal-1.given.1)),
   refl,
 )
 
-returns-2 : tie.Need-returns-2
+returns-2 : tie.Need-returns-then-is_none
 returns-2 c =
     let k = c.before.before in (
       ap outcome_reply
-          (left_none _ _ _ (standing k) (sym c.before.is_none.ensures ∙ c.if1.true) ∙ state_left _ _ _ (checked k)),
+          (left_none _ _ _ (standing k) (sym c.before.is_none.ensures ∙ c.if-is_none.true) ∙ state_left _ _ _ (checked k)),
       refl,
     )
 
-returns-3 : tie.Need-returns-3
+returns-3 : tie.Need-returns-then-record-record_size
 returns-3 c =
     let k = c.before.before.before.before in (
       ap outcome_reply
-          (left_misfit _ _ _ (standing k) (sym c.before.before.before.is_none.ensures ∙ c.before.before.if1.false)
-          (λ e. c.if2.true (e ∙ sym c.before.record-size.ensures)) ∙ state_left _ _ _ (checked k)),
+          (left_misfit _ _ _ (standing k) (sym c.before.before.before.is_none.ensures ∙ c.before.before.if-is_none.false)
+          (λ e. c.if-record-record_size.true (e ∙ sym c.before.record_size.ensures)) ∙ state_left _ _ _ (checked k)),
       refl,
     )
 
-put-state-requires : tie.Need-put-state-requires
+put-state-requires : tie.Need-put_state-requires
 put-state-requires c κs =
     let v = c.before.before.before.before.before.before in
     let r = (walkable (told v)).whole in
@@ -113,22 +113,22 @@ put-state-requires c κs =
       above = λ q h. rw (get_or-replicate {A = ℕ} 8 q 0 0 h) (omega arith);
     }
 
-returns-4 : tie.Need-returns-4
+returns-4 : tie.Need-returns-in-Refused-settle
 returns-4 c =
     let v = c.before.before.before.before in
-    let stands = subst (Stood v) c.before.refusal2.given.1 (stood c.before.before.before) in
+    let stands = subst (Stood v) c.before.refusal-in-Refused-settle-1.given.1 (stood c.before.before.before) in
     (ap outcome_reply (sym (ap outcome_of stands) ∙ asked v.before), refl)
 
-returns-5 : tie.Need-returns-5
+returns-5 : tie.Need-returns-in-From
 returns-5 c =
     let v = c.before.before.before.before.before.before.before.before.before in
     let k = told v in
     let a = (start k).args in
     let b = begun c.before.before.before.before.before.before in (
       ap outcome_reply (sym (ap outcome_of b.state) ∙ asked v.before),
-      c.before.before.put-state.ensures
+      c.before.before.put_state.ensures
           ∙ (state_filled _ a.instant (table k) (walkable k).whole (walkable k).rising _ b
-          v.survey-permanent.result.latest.marks (surveyed v).marks (table k) (replicate {A = ℕ} 8 0)
+          v.survey_permanent-found.result.latest.marks (surveyed v).marks (table k) (replicate {A = ℕ} 8 0)
           (λ q h. get_or-replicate {A = ℕ} 8 q 0 0 h)
           ∙ sym (ap (λ (s : Standing). record_of (stride_of (table k)) a.instant s a.«record».now) b.state)),
     )

@@ -9,38 +9,38 @@ use borrow.Author.Rules.{rules}
 use Rattle.state.proofs.front.held_with.Statement.{statement}
 use Rattle.state.proofs.front.held_with.Tie as tie
 
-abbrev start : tie.Else1 → tie.Start
+abbrev start : tie.Else-not-precedes → tie.Start
 start k = k.before.before.before.before.before
 
 -- the instant is before the end
-here : (k : tie.Else1) → before (start k).args.instant (start k).args.period.end ≡ true
-here k = sym k.before.precedes.ensures ∙ not-false _ k.if1.false
+here : (k : tie.Else-not-precedes) → before (start k).args.instant (start k).args.period.end ≡ true
+here k = sym k.before.precedes.ensures ∙ k.if-not-precedes.false
 
-returns-2 : tie.Need-returns-2
+returns-2 : tie.Need-returns-then-not-is_none
 returns-2 c =
     let k = c.before.before.before in
-    ap (λ (f : Few). record { fixed = f; last = (start k).args.bases.last; endless = (start k).args.bases.endless }) c.tallied.ensures
-    ∙ held_fixed _ _ _ _ (here k) (sym c.before.before.is_none.ensures ∙ not-true _ c.before.if2.true)
+    ap (λ (f : Few). record { fixed = f; last = (start k).args.bases.last; endless = (start k).args.bases.endless }) c.tallied-fixed.ensures
+    ∙ held_fixed _ _ _ _ (here k) (sym c.before.before.is_none.ensures ∙ c.before.if-not-is_none.true)
 
-returns-3 : tie.Need-returns-3
+returns-3 : tie.Need-returns-then-is
 returns-3 c =
     let k = c.before.before.before.before.before in
-    ap (λ (f : Few). record { fixed = (start k).args.bases.fixed; last = (start k).args.bases.last; endless = f }) c.tallied2.ensures
-    ∙ held_endless _ _ _ _ (here k) (sym c.before.before.before.before.is_none.ensures ∙ not-false _ c.before.before.before.if2.false)
-    (sym c.before.before.is.ensures ∙ c.before.if3.true)
+    ap (λ (f : Few). record { fixed = (start k).args.bases.fixed; last = (start k).args.bases.last; endless = f }) c.tallied-endless.ensures
+    ∙ held_endless _ _ _ _ (here k) (sym c.before.before.before.before.is_none.ensures ∙ c.before.before.before.if-not-is_none.false)
+    (sym c.before.before.is.ensures ∙ c.before.if-is.true)
 
-returns-4 : tie.Need-returns-4
+returns-4 : tie.Need-returns
 returns-4 c =
     let k = c.before.before.before.before in
-    held_closed _ _ _ _ (here k) (sym c.before.before.before.is_none.ensures ∙ not-false _ c.before.before.if2.false)
-    (sym c.before.is.ensures ∙ c.if3.false)
+    held_closed _ _ _ _ (here k) (sym c.before.before.before.is_none.ensures ∙ c.before.before.if-not-is_none.false)
+    (sym c.before.is.ensures ∙ c.if-is.false)
 
 pub held_with_spec : {M : Type 1} → statement M
 held_with_spec =
     tie.close
     (tie.spec
     (λ c κs. search rules)
-    (λ c. held_not _ _ _ _ (sym c.before.precedes.ensures ∙ not-true _ c.if1.true))
+    (λ c. held_not _ _ _ _ (sym c.before.precedes.ensures ∙ c.if-not-precedes.true))
     (λ c κs. search rules)
     (λ c κs. search rules)
     returns-2

@@ -25,15 +25,15 @@ use borrow.Author.Rules.{rules}
 use Rattle.state.proofs.looking.look_down.Statement.{statement}
 use Rattle.state.proofs.looking.look_down.Tie as tie
 
-abbrev invariant-loop : tie.invariant-loop
+abbrev invariant-loop : tie.invariant-loop-looked
 invariant-loop temporary instant n stride size count looked₀ looked =
     (looked ≤ count) × (any (touches instant n) (drop (count - looked) (slices_of temporary)) ≡ false)
 
-abbrev decreases-loop : tie.decreases-loop
+abbrev decreases-loop : tie.decreases-loop-looked
 decreases-loop temporary instant n stride size count looked₀ looked = count - looked
 
 -- the record that a turn looks at, and the slice that it says
-module _ (k : tie.After-record-at invariant-loop decreases-loop) where
+module _ (k : tie.After-record_at-record invariant-loop decreases-loop) where
   abbrev start : tie.Start invariant-loop decreases-loop
   start = k.before.before.before.before.before.before.before
 
@@ -42,10 +42,10 @@ module _ (k : tie.After-record-at invariant-loop decreases-loop) where
 
   -- how many records there are, and how many were looked at before
   abbrev count : ℕ
-  count = k.before.before.before.count_of.result
+  count = k.before.before.before.count_of-count.result
 
   abbrev before : ℕ
-  before = k.before.before.loop.looked
+  before = k.before.before.loop-looked.looked
 
   abbrev place : ℕ
   place = count - (before + 1)
@@ -56,58 +56,58 @@ module _ (k : tie.After-record-at invariant-loop decreases-loop) where
   below : place < count_of table
   below = omega arith
 
-  read : Read table place k.before.before.before.before.before.stride-of.result k.record-at.result.now
-  read = read_here table place k.before.before.before.before.record-size.ensures k.record-at.ensures.0
-      k.before.before.before.before.before.stride-of.ensures start.pre.0 below
+  read : Read table place k.before.before.before.before.before.stride_of-stride.result k.record_at-record.result.now
+  read = read_here table place k.before.before.before.before.record_size-size.ensures k.record_at-record.ensures.0
+      k.before.before.before.before.before.stride_of-stride.ensures start.requires.0 below
 
   -- none behind it touches the property
   quiet : any (touches start.args.instant start.args.n) (drop (place + 1) (slices_of table)) ≡ false
-  quiet = let e : place + 1 ≡ count - before = omega arith in rw e k.before.before.loop.inv.1
+  quiet = let e : place + 1 ≡ count - before = omega arith in rw e k.before.before.loop-looked.invariant.1
 
 -- whether it does is what the code tests
 told : (v : tie.After-mentions invariant-loop decreases-loop) → let k = v.before.before in
-    (v.before.is-holding.result && v.mentions.result) ≡ touches (start k).args.instant (start k).args.n (here k)
+    (v.before.is_holding.result && v.mentions.result) ≡ touches (start k).args.instant (start k).args.n (here k)
 unfolding touches
 told v =
     let k = v.before.before in
     let t = (start k).args.instant in
     let n = (start k).args.n in
-    let held : v.before.is-holding.result ≡ valid t (here k) =
-    v.before.is-holding.ensures (stride_of (table k)) ∙ ap (λ r. holding tempdelta t (view_of (stride_of (table k)) r)) (read k).is
+    let held : v.before.is_holding.result ≡ valid t (here k) =
+    v.before.is_holding.ensures (stride_of (table k)) ∙ ap (λ r. holding tempdelta t (view_of (stride_of (table k)) r)) (read k).is
     ∙ valid_holding t (here k) in
     let said = v.mentions.ensures ∙ ap (tells n) (read k).seen ∙ tells_mentions n (here k) (start k).requires.1 in
     λ i. held i && said i
 
-loop-holds : tie.Need-loop-init invariant-loop decreases-loop
+loop-holds : tie.Need-loop-looked-init invariant-loop decreases-loop
 loop-holds c =
     let a = c.before.before.before.before.args in
-    (omega arith, ap (any (touches a.instant a.n)) (slices_end a.temporary.now (c.count_of.result - 0) (omega arith)))
+    (omega arith, ap (any (touches a.instant a.n)) (slices_end a.temporary.now (c.count_of-count.result - 0) (omega arith)))
 
-loop-again : tie.Need-loop-preserved invariant-loop decreases-loop
+loop-again : tie.Need-loop-looked-preserved invariant-loop decreases-loop
 loop-again c =
     let k = c.before.before.before in
     let a = (start k).args in (
       omega arith,
       quiet_here (table k) (start k).requires.0 a.instant a.n (place k) (below k) (quiet k)
-          (sym (told c.before) ∙ c.if1.false),
+          (sym (told c.before) ∙ c.if-is_holding-mentions.false),
     )
 
-returns : tie.Need-returns invariant-loop decreases-loop
+returns : tie.Need-returns-then-is_holding-mentions invariant-loop decreases-loop
 returns c =
     let k = c.before.before.before in
     let a = (start k).args in
     let e : before k + 1 ≡ count_of (table k) - place k = omega arith in
     ap Yes e
     ∙ found_here (table k) (start k).requires.0 a.instant a.n (place k) (below k) (quiet k)
-    (sym (told c.before) ∙ c.if1.true)
+    (sym (told c.before) ∙ c.if-is_holding-mentions.true)
 
-returns-2 : tie.Need-returns-2 invariant-loop decreases-loop
+returns-2 : tie.Need-returns invariant-loop decreases-loop
 returns-2 c =
     let s = c.before.before.before.before.before.before in
-    let e : c.before.loop.looked ≡ count_of s.args.temporary.now = omega arith in
-    let z : c.before.before.count_of.result - c.before.loop.looked ≡ 0 = omega arith in
+    let e : c.before.loop-looked.looked ≡ count_of s.args.temporary.now = omega arith in
+    let z : c.before.before.count_of-count.result - c.before.loop-looked.looked ≡ 0 = omega arith in
     ap No e
-    ∙ found_nowhere s.args.temporary.now s.requires.0 s.args.instant s.args.n (rw z at c.before.loop.invariant.1)
+    ∙ found_nowhere s.args.temporary.now s.requires.0 s.args.instant s.args.n (rw z at c.before.loop-looked.invariant.1)
 
 pub look_down_spec : {M : Type 1} → statement M
 look_down_spec =
@@ -124,7 +124,7 @@ look_down_spec =
     (λ c. omega arith)
     (λ c κs. search rules)
     (λ c κs. search rules)
-    (λ c κs. ((read c.before).sized, (start c.before).pre.1))
+    (λ c κs. ((read c.before).sized, (start c.before).requires.1))
     returns
     (λ c. omega arith)
     loop-again

@@ -12,27 +12,27 @@ use Rattle.state.proofs.mention.later.Statement.{statement}
 use Rattle.state.proofs.mention.later.Tie as tie
 
 -- whether the old mention is the earlier one
-told : (c : tie.After-precedes2)
-    → (c.before.before.precedes.result || (c.before.is.result && c.precedes2.result))
+told : (c : tie.After-precedes-2)
+    → (c.before.before.precedes.result || (c.before.is.result && c.precedes-2.result))
     ≡ behind c.before.before.before.before.before.before.before.before.args.old
     c.before.before.before.before.before.before.before.before.args.new
 unfolding turn_less lex_less numbers
-told c = rw (c.before.before.precedes.ensures, c.before.is.ensures, c.precedes2.ensures)
+told c = rw (c.before.before.precedes.ensures, c.before.is.ensures, c.precedes-2.ensures)
 
-returns-2 : tie.Need-returns-2
+returns-2 : tie.Need-returns-then-old-behind
 returns-2 c =
-    later_new _ _ _ (not-false _ c.before.before.before.before.before.before.before.before.before.if1.false)
+    later_new _ _ _ (c.before.before.before.before.before.before.before.before.before.if-not-yes.false)
     (ap (λ b. eqb c.before.before.before.before.before.before.before.before.before.before.args.old.from 0 || b)
-    (sym (told c.before.before)) ∙ c.if2.true)
+    (sym (told c.before.before)) ∙ c.if-old-behind.true)
 
-returns-3 : tie.Need-returns-3
+returns-3 : tie.Need-returns
 returns-3 c =
-    later_old _ _ _ (not-false _ c.before.before.before.before.before.before.before.before.before.if1.false)
+    later_old _ _ _ (c.before.before.before.before.before.before.before.before.before.if-not-yes.false)
     (ap (λ b. eqb c.before.before.before.before.before.before.before.before.before.before.args.old.from 0 || b)
-    (sym (told c.before.before)) ∙ c.if2.false)
+    (sym (told c.before.before)) ∙ c.if-old-behind.false)
 
 pub later_spec : {M : Type 1} → statement M
 later_spec =
     tie.close
-    (tie.spec (λ c. later_not _ _ _ (not-true _ c.if1.true)) (λ c κs. search rules) (λ c κs. search rules)
+    (tie.spec (λ c. later_not _ _ _ (c.if-not-yes.true)) (λ c κs. search rules) (λ c κs. search rules)
     (λ c κs. search rules) returns-2 returns-3)

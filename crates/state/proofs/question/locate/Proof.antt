@@ -33,7 +33,7 @@ use Rattle.state.proofs.question.locate.Statement.{statement}
 use Rattle.state.proofs.question.locate.Tie as tie
 
 -- both tables are sound
-module _ (c : tie.After-enum-told) where
+module _ (c : tie.In_default) where
   abbrev start : tie.Start
   start = c.before.before.before.before.before
 
@@ -48,7 +48,7 @@ module _ (c : tie.After-enum-told) where
   answer = place_at table other start.args.instant start.args.property
 
   checked : check_both table other ≡ Sound
-  checked = sym c.before.before.check_both.ensures ∙ c.enum_told.given.1
+  checked = sym c.before.before.check_both.ensures ∙ c.enum_told-1.given.1
 
   sound : (check_table sides.Permanent table ≡ Sound) × (check_table sides.Temporary other ≡ Sound)
   sound = both_sound table other checked
@@ -60,39 +60,39 @@ module _ (c : tie.After-enum-told) where
   whole2 = (sound_table sides.Temporary other sound.1).roomy
 
 -- 19 is past
-test : (c : tie.After-is-none) → let a = (start c.before).args in
+test : (c : tie.After-is_none) → let a = (start c.before).args in
     (c.is_none.result || ltb 7 a.property) ≡ (is_none a.instant || ltb 7 a.property)
 test c = ap (λ b. b || ltb 7 (start c.before).args.property) c.is_none.ensures
 
-asked : (c : tie.Else1)
+asked : (c : tie.Else-is_none-property)
     → let k = c.before.before in
     answer k (permanent_at (start k).args.instant (slices_of (table k))) ≡ place_of (table k) (other k) (start k).args.instant
     (start k).args.property
-asked c = place_left _ _ _ _ (checked c.before.before) (sym (test c.before) ∙ c.if1.false)
+asked c = place_left _ _ _ _ (checked c.before.before) (sym (test c.before) ∙ c.if-is_none-property.false)
 
-small : (c : tie.Else1) → (start c.before.before).args.property < 8
+small : (c : tie.Else-is_none-property) → (start c.before.before).args.property < 8
 small c = let e : ltb 7 (start c.before.before).args.property ≡ false =
-    (or_neither c.before.is_none.result _ c.if1.false).1 in omega tests
+    (or_neither c.before.is_none.result _ c.if-is_none-property.false).1 in omega tests
 
 -- what was found, and what that settles
-abbrev told : tie.After-survey-permanent → tie.After-enum-told
+abbrev told : tie.After-survey_permanent-found → tie.In_default
 told c = c.before.before.before
 
-surveyed : (c : tie.After-survey-permanent)
+surveyed : (c : tie.After-survey_permanent-found)
     → let n = (start (told c)).args.property in
-    Surveyed (start (told c)).args.instant (table (told c)) n (n + 1) c.survey-permanent.result
+    Surveyed (start (told c)).args.instant (table (told c)) n (n + 1) c.survey_permanent-found.result
 surveyed c =
-    let (bases, (openings, (long, marks))) = c.survey-permanent.ensures in
+    let (bases, (openings, (long, marks))) = c.survey_permanent-found.ensures in
     record { walkable = walkable (told c); bases = bases; openings = openings; long = long; marks = marks }
 
-abbrev Stood : tie.After-survey-permanent → anchor.Standing → Type 0
-Stood k = Settled (since_of (table (told k)) k.survey-permanent.result.bases) (start (told k)).args.instant (table (told k))
+abbrev Stood : tie.After-survey_permanent-found → anchor.Standing → Type 0
+Stood k = Settled (since_of (table (told k)) k.survey_permanent-found.result.bases) (start (told k)).args.instant (table (told k))
 
 stood : (c : tie.After-settle) → Stood c.before c.settle.result
 stood c = settles _ _ _ _ _ (surveyed c.before) _ c.settle.ensures
 
-begun : (c : tie.After-start) → let k = c.before.before.before in Stood k (From c.start.given.0.0)
-begun c = subst (Stood c.before.before.before) c.start.given.1 (stood c.before.before)
+begun : (c : tie.In-From-2) → let k = c.before.before.before in Stood k (From c.start-1.given.0.0)
+begun c = subst (Stood c.before.before.before) c.start-1.given.1 (stood c.before.before)
 
 placed-requires : tie.Need-placed-requires
 placed-requires c κs =
@@ -100,7 +100,7 @@ placed-requires c κs =
     let k = told v in
     let n = (start k).args.property in
     let over =
-    known_valid (start k).args.instant (other k) (whole2 k) n _ (c.before.overlay.ensures.1 n (small v.before)) in (
+    known_valid (start k).args.instant (other k) (whole2 k) n _ (c.before.overlay-passing.ensures.1 n (small v.before)) in (
       small v.before,
       (
         record { whole = (walkable k).whole; below = (begun c.before.before.before.before).place },
@@ -111,13 +111,13 @@ placed-requires c κs =
       ),
     )
 
-returns-3 : tie.Need-returns-3
+returns-3 : tie.Need-returns-in-Refused-settle
 returns-3 c =
     let v = c.before.before.before.before in
-    let stands = subst (Stood v) c.before.refusal2.given.1 (stood c.before.before.before) in
+    let stands = subst (Stood v) c.before.refusal-in-Refused-settle-1.given.1 (stood c.before.before.before) in
     ap place_reply (sym (ap (answer (told v)) stands) ∙ asked v.before)
 
-returns-4 : tie.Need-returns-4
+returns-4 : tie.Need-returns-in-From
 returns-4 c =
     let v = c.before.before.before.before.before.before.before.before in
     let k = told v in
@@ -128,7 +128,7 @@ returns-4 c =
     (sound_rising (other k) sides.Temporary (sound k).1) _ (begun c.before.before.before.before.before) n
     (small v.before)
     _ (mark_due_lem _ _ _ _ _ (surveyed v) n (omega arith) (omega arith)) _
-    (c.before.before.overlay.ensures.1 n (small v.before))
+    (c.before.before.overlay-passing.ensures.1 n (small v.before))
     ∙ asked v.before))
 
 pub locate_spec : {M : Type 1} → statement M
@@ -138,10 +138,10 @@ locate_spec =
     (λ c κs. search rules)
     (λ c. search rules)
     (λ c. ap place_reply
-    (place_refused _ _ _ _ _ (sym c.before.before.before.check_both.ensures ∙ c.before.refusal.given.1)))
+    (place_refused _ _ _ _ _ (sym c.before.before.before.check_both.ensures ∙ c.before.refusal-1.given.1)))
     (λ c. search rules)
     (λ c κs. search rules)
-    (λ c. ap place_reply (place_none _ _ _ _ (checked c.before.before) (sym (test c.before) ∙ c.if1.true)))
+    (λ c. ap place_reply (place_none _ _ _ _ (checked c.before.before) (sym (test c.before) ∙ c.if-is_none-property.true)))
     (λ c. search rules)
     (λ c κs. (walkable c.before.before, (omega arith, omega (arith, small c))))
     (λ c κs. settle_asks _ _ _ _ _ (surveyed c))

@@ -20,53 +20,53 @@ made : (x : Bor (List ℕ)) (at s n : ℕ) → s ≡ n
     (points_into x at, take n (drop at x.now))
 made x at s n e = let z : at + s - at ≡ n = omega arith in rw z
 
-within : (c : tie.After-stride-of)
-    → c.before.before.at.given.0.0 + stride_of
+within : (c : tie.After-stride_of)
+    → c.at-1.given.0.0 + stride_of
     c.before.before.before.before.before.before.before.args.permanent.now ≤ length
     c.before.before.before.before.before.before.before.args.permanent.now
 within c =
     permanent_within _ c.before.before.before.before.before.before.before.args.temporary.now
     c.before.before.before.before.before.before.before.args.instant
     c.before.before.before.before.before.before.before.args.property _
-    (sym (place_told _ _ c.before.before.before.before.locate.ensures) ∙ c.before.before.at.given.1)
+    (sym (place_told _ _ c.before.before.before.before.locate.ensures) ∙ c.before.before.at-1.given.1)
 
-within2 : (c : tie.After-stride-of2)
-    → c.before.before.at2.given.0.0 + stride_of
+within2 : (c : tie.After-stride_of-in-Temporary)
+    → c.at-in-Temporary-1.given.0.0 + stride_of
     c.before.before.before.before.before.before.before.args.temporary.now ≤ length
     c.before.before.before.before.before.before.before.args.temporary.now
 within2 c =
     temporary_within c.before.before.before.before.before.before.before.args.permanent.now _
     c.before.before.before.before.before.before.before.args.instant
     c.before.before.before.before.before.before.before.args.property _
-    (sym (place_told _ _ c.before.before.before.before.locate.ensures) ∙ c.before.before.at2.given.1)
+    (sym (place_told _ _ c.before.before.before.before.locate.ensures) ∙ c.before.before.at-in-Temporary-1.given.1)
 
-returns : tie.Need-returns
+returns : tie.Need-returns-in-Permanent
 returns c =
     let a = c.before.before.before.before.before.before.before.before.args in
-    made a.permanent c.before.before.before.at.given.0.0 c.before.stride-of.result (stride_of a.permanent.now)
-    c.before.stride-of.ensures
+    made a.permanent c.before.before.before.at-1.given.0.0 c.before.stride_of.result (stride_of a.permanent.now)
+    c.before.stride_of.ensures
     ∙ ap (λ (z : Place). handed z a.permanent a.temporary)
-    (sym c.before.before.before.at.given.1 ∙ place_told _ _ c.before.before.before.before.before.locate.ensures)
+    (sym c.before.before.before.at-1.given.1 ∙ place_told _ _ c.before.before.before.before.before.locate.ensures)
 
-returns-2 : tie.Need-returns-2
+returns-2 : tie.Need-returns-in-Temporary
 returns-2 c =
     let a = c.before.before.before.before.before.before.before.before.args in
-    made a.temporary c.before.before.before.at2.given.0.0 c.before.stride-of2.result (stride_of a.temporary.now)
-    c.before.stride-of2.ensures
+    made a.temporary c.before.before.before.at-in-Temporary-1.given.0.0 c.before.stride_of-in-Temporary.result (stride_of a.temporary.now)
+    c.before.stride_of-in-Temporary.ensures
     ∙ ap (λ (z : Place). handed z a.permanent a.temporary)
-    (sym c.before.before.before.at2.given.1 ∙ place_told _ _ c.before.before.before.before.before.locate.ensures)
+    (sym c.before.before.before.at-in-Temporary-1.given.1 ∙ place_told _ _ c.before.before.before.before.before.locate.ensures)
 
-returns-3 : tie.Need-returns-3
+returns-3 : tie.Need-returns-in-Unmentioned
 returns-3 c =
     let a = c.before.before.before.before.before.before.args in
     ap (λ (z : Place). handed z a.permanent a.temporary)
-    (sym c.before.enum_told.given.1 ∙ place_told _ _ c.before.before.before.locate.ensures)
+    (sym c.before.enum_told-1.given.1 ∙ place_told _ _ c.before.before.before.locate.ensures)
 
-returns-4 : tie.Need-returns-4
+returns-4 : tie.Need-returns-in-Refused
 returns-4 c =
     let a = c.before.before.before.before.before.before.args in
     ap (λ (z : Place). handed z a.permanent a.temporary)
-    (sym c.before.enum-told2.given.1 ∙ place_told _ _ c.before.before.before.locate.ensures)
+    (sym c.before.enum_told-in-Refused-1.given.1 ∙ place_told _ _ c.before.before.before.locate.ensures)
 
 pub property_spec : {M : Type 1} → statement M
 property_spec =
@@ -75,16 +75,16 @@ property_spec =
     (λ c κs. search rules)
     (λ c. search rules)
     (λ c κs. search rules)
-    (λ c. omega (arith, within c, c.stride-of.ensures))
+    (λ c. omega (arith, within c, c.stride_of.ensures))
     (λ c. search rules)
     (λ c. search rules)
-    (λ c. omega (arith, within c, c.stride-of.ensures))
+    (λ c. omega (arith, within c, c.stride_of.ensures))
     (λ c. search rules)
     (λ c κs. search rules)
-    (λ c. omega (arith, within2 c, c.stride-of2.ensures))
+    (λ c. omega (arith, within2 c, c.stride_of-in-Temporary.ensures))
     (λ c. search rules)
     (λ c. search rules)
-    (λ c. omega (arith, within2 c, c.stride-of2.ensures))
+    (λ c. omega (arith, within2 c, c.stride_of-in-Temporary.ensures))
     (λ c. search rules)
     (λ c. search rules)
     (λ c. search rules)

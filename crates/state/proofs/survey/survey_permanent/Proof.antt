@@ -29,17 +29,17 @@ use borrow.Author.Rules.{rules}
 use Rattle.state.proofs.survey.survey_permanent.Statement.{statement}
 use Rattle.state.proofs.survey.survey_permanent.Tie as tie
 
-abbrev invariant-loop2 : tie.invariant-loop2
+abbrev invariant-loop2 : tie.invariant-loop-part
 invariant-loop2 permanent instant from to stride size count bases since openings latest₀ i «record» new part₀ latest part =
     (from ≤ part)
     × ((part ≤ to)
     × ((length latest.marks ≡ 10)
     × Noted nothing from (λ q m. later_of (tells q (view_of stride «record»)) new m) latest₀.marks latest.marks part))
 
-abbrev decreases-loop2 : tie.decreases-loop2
+abbrev decreases-loop2 : tie.decreases-loop-part
 decreases-loop2 permanent instant from to stride size count bases since openings latest₀ i «record» new part₀ latest part = to - part
 
-abbrev invariant-loop : tie.invariant-loop
+abbrev invariant-loop : tie.invariant-loop-i
 invariant-loop permanent instant from to stride size count bases since openings₀ latest₀ i₀ openings latest i = (i ≤ count)
     × (Keeps (tally_with (opens_due since instant)) (λ few. few) openings
     (tally_from (opens_due since instant) 0 Zero (slices_of permanent)) i (drop i (slices_of permanent))
@@ -48,11 +48,11 @@ invariant-loop permanent instant from to stride size count bases since openings�
     → Keeps (latest_with later_turn (λ d. due since instant d && tells q d)) mark_due (get_or latest.marks q nothing)
     (latest_due q since instant (slices_of permanent)) i (drop i (slices_of permanent)))))
 
-abbrev decreases-loop : tie.decreases-loop
+abbrev decreases-loop : tie.decreases-loop-i
 decreases-loop permanent instant from to stride size count bases since openings₀ latest₀ i₀ openings latest i = count - i
 
 -- the record that a turn looks at, and the slice that it says
-module _ (k : tie.After-record-at invariant-loop2 decreases-loop2 invariant-loop decreases-loop) where
+module _ (k : tie.After-record_at-record invariant-loop2 decreases-loop2 invariant-loop decreases-loop) where
   abbrev start : tie.Start invariant-loop2 decreases-loop2 invariant-loop decreases-loop
   start = k.before.before.before.before.before.before.before.before.before.before.before
 
@@ -60,41 +60,41 @@ module _ (k : tie.After-record-at invariant-loop2 decreases-loop2 invariant-loop
   table = start.args.permanent.now
 
   abbrev stride : ℕ
-  stride = k.before.before.before.before.before.before.before.before.before.stride-of.result
+  stride = k.before.before.before.before.before.before.before.before.before.stride_of-stride.result
 
   abbrev place : ℕ
-  place = k.before.before.loop.i
+  place = k.before.before.loop-i.i
 
   abbrev here : Slice
   here = view_of (stride_of table) (record_at (record_size (stride_of table)) place table)
 
   -- the latest mention of a part, with one that this record may make
   abbrev step : Mark → ℕ → Mark → Mark
-  step new q m = later_of (tells q (view_of stride k.record-at.result.now)) new m
+  step new q m = later_of (tells q (view_of stride k.record_at-record.result.now)) new m
 
   -- a PERMDELTA that is due, that opens, and all that do
   abbrev is_due : Slice → Bool
-  is_due = due k.before.before.before.before.Since-of.result start.args.instant
+  is_due = due k.before.before.before.before.since_of-since.result start.args.instant
 
   abbrev is_opening : Slice → Bool
-  is_opening = opens_due k.before.before.before.before.Since-of.result start.args.instant
+  is_opening = opens_due k.before.before.before.before.since_of-since.result start.args.instant
 
   abbrev all : Few
   all = tally_from is_opening 0 Zero (slices_of table)
 
   few : start.args.to ≤ 8
-  few = start.pre.1.1
+  few = start.requires.1.1
 
   below : place < count_of table
   below = omega arith
 
-  read : Read table place stride k.record-at.result.now
-  read = read_here table place k.before.before.before.before.before.before.before.before.record-size.ensures
-      k.record-at.ensures.0 k.before.before.before.before.before.before.before.before.before.stride-of.ensures
-      start.pre.0.whole below
+  read : Read table place stride k.record_at-record.result.now
+  read = read_here table place k.before.before.before.before.before.before.before.before.record_size-size.ensures
+      k.record_at-record.ensures.0 k.before.before.before.before.before.before.before.before.before.stride_of-stride.ensures
+      start.requires.0.whole below
 
   next : drop place (slices_of table) ≡ here ∷ drop (place + 1) (slices_of table)
-  next = slices_at table place below start.pre.0.whole
+  next = slices_at table place below start.requires.0.whole
 
   -- past the inner loop the properties are noted, and then the life times
   all_noted : (new b e : Mark) (ms₀ ms₁ : List Mark) (part : ℕ) → part ≤ start.args.to → start.args.to ≤ part → length ms₁ ≡ 10
@@ -110,17 +110,17 @@ module _ (k : tie.After-record-at invariant-loop2 decreases-loop2 invariant-loop
       (noted_turn nothing 8 (step new) ms₁ (set ms₁ 8 b) 9 e (omega arith) (omega (arith, wide))
       (noted_turn nothing 8 (step new) ms₁ ms₁ 8 b (omega arith) (omega (arith, long)) (noted_start nothing 8 (step new) ms₁) x) y)
 
-told : (v : tie.After-is-due invariant-loop2 decreases-loop2 invariant-loop decreases-loop) → v.is-due.result ≡ is_due v.before (here v.before)
+told : (v : tie.After-is_due invariant-loop2 decreases-loop2 invariant-loop decreases-loop) → v.is_due.result ≡ is_due v.before (here v.before)
 told v = let k = v.before in
-    v.is-due.ensures (stride_of (table k)) ∙ ap (λ r. is_due k (view_of (stride_of (table k)) r)) (read k).is
+    v.is_due.ensures (stride_of (table k)) ∙ ap (λ r. is_due k (view_of (stride_of (table k)) r)) (read k).is
 
-loop-holds : tie.Need-loop-init invariant-loop2 decreases-loop2 invariant-loop decreases-loop
+loop-holds : tie.Need-loop-i-init invariant-loop2 decreases-loop2 invariant-loop decreases-loop
 unfolding latest_due
 loop-holds c =
     let a = c.before.before.before.before.before.before.before.before.args in
     let p = a.permanent.now in
-    let s = c.before.Since-of.result in
-    let f = c.before.before.before.front_of in
+    let s = c.before.since_of-since.result in
+    let f = c.before.before.before.front_of-front in
     let most : f.result.end ≤ length (slices_of p) = omega (arith, f.ensures.1.0, slices_length p) in (
       omega (arith, f.ensures.1.0),
       (
@@ -132,10 +132,10 @@ loop-holds c =
               (none_opens s a.instant (get_or (slices_of p) j d) (f.ensures.1.1 j d h)) Zero),
         ),
         (
-          c.no-mention.ensures.0,
+          c.no_mention-latest.ensures.0,
           λ q y. let g : Slice → Bool = λ d. due s a.instant d && tells q d in (
             none,
-            c.no-mention.ensures.1 q,
+            c.no_mention-latest.ensures.1 q,
             pass_front (latest_with later_turn g) f.result.end none (slices_of p) most
                 (λ j d h n. latest_past later_turn g n (get_or (slices_of p) j d)
                 (ap (λ b. b && tells q (get_or (slices_of p) j d))
@@ -145,79 +145,79 @@ loop-holds c =
       ),
     )
 
-loop2-holds : tie.Need-loop2-init invariant-loop2 decreases-loop2 invariant-loop decreases-loop
+loop2-holds : tie.Need-loop-part-init invariant-loop2 decreases-loop2 invariant-loop decreases-loop
 loop2-holds c =
     let k = c.before.before.before.before.before in
-    let l = k.before.before.loop in (
+    let l = k.before.before.loop-i in (
       omega arith,
       (
         (start k).requires.1.0,
-        (l.invariant.1.1.0, noted_start nothing (start k).args.from (step k c.mark_of.result) l.latest.marks),
+        (l.invariant.1.1.0, noted_start nothing (start k).args.from (step k c.mark_of-new.result) l.latest.marks),
       ),
     )
 
-loop2-again : tie.Need-loop2-preserved invariant-loop2 decreases-loop2 invariant-loop decreases-loop
+loop2-again : tie.Need-loop-part-preserved invariant-loop2 decreases-loop2 invariant-loop decreases-loop
 loop2-again c =
     let l = c.before.before.before.before in
     let k = l.before.before.before.before.before.before in
-    let new = l.before.mark_of.result in
-    let part = l.loop2.part in
-    let ms = l.loop2.latest.marks in (
+    let new = l.before.mark_of-new.result in
+    let part = l.loop-part.part in
+    let ms = l.loop-part.latest.marks in (
       omega arith,
       (
         omega arith,
         (
-          length-set ms part c.later.result ∙ l.loop2.invariant.1.1.0,
-          noted_turn nothing (start k).args.from (step k new) k.before.before.loop.latest.marks ms part c.later.result
-              (omega arith) (omega (arith, few k, l.loop2.invariant.1.1.0)) l.loop2.invariant.1.1.1
+          length-set ms part c.later.result ∙ l.loop-part.invariant.1.1.0,
+          noted_turn nothing (start k).args.from (step k new) k.before.before.loop-i.latest.marks ms part c.later.result
+              (omega arith) (omega (arith, few k, l.loop-part.invariant.1.1.0)) l.loop-part.invariant.1.1.1
               (c.later.ensures ∙ ap (λ b. later_of b new (get_or ms part nothing)) c.before.mentions.ensures),
         ),
       ),
     )
 
-loop-again : tie.Need-loop-preserved invariant-loop2 decreases-loop2 invariant-loop decreases-loop
+loop-again : tie.Need-loop-i-preserved invariant-loop2 decreases-loop2 invariant-loop decreases-loop
 loop-again c =
     let k = c.before.before in
-    let l = k.before.before.loop in
-    let s = k.before.before.before.before.Since-of.result in
+    let l = k.before.before.loop-i in
+    let s = k.before.before.before.before.since_of-since.result in
     let t = (start k).args.instant in
     let f = is_opening k in (
       omega arith,
       ⊎_elim
-          (λ x. let y : is_due k (here k) ≡ true = sym (told c.before) ∙ x.0.taken in
-          let o : f (here k) ≡ x.1.result = opens_told s t (here k) true y ∙ sym (x.1.ensures ∙ ap (tells 8) (read k).seen) in (
+          (λ x. let y : is_due k (here k) ≡ true = sym (told c.before) ∙ x.if-is_due.true in
+          let o : f (here k) ≡ x.gives.result = opens_told s t (here k) true y ∙ sym (x.gives.ensures ∙ ap (tells 8) (read k).seen) in (
             ⊎_elim
                 (λ z. keeps_turn (tally_with f) (λ few. few) l.openings _ (all k) (place k) (here k) _ _ (next k)
-                (one_more (place k)) (tally_turn f (place k) (here k) (o ∙ z.0.taken)) (x.12 ∙ (z.2 ∙ z.1.ensures))
+                (one_more (place k)) (tally_turn f (place k) (here k) (o ∙ z.if-gives.true)) (x.latest-is ∙ (z.2 ∙ z.tallied-openings.ensures))
                 l.invariant.1.0)
                 (λ z. keeps_past (tally_with f) (λ few. few) l.openings _ (all k) (place k) (here k) _ _ (next k)
-                (tally_past f (place k) (here k) (o ∙ z.0.left)) (x.12 ∙ z.1) l.invariant.1.0)
-                x.2.came,
+                (tally_past f (place k) (here k) (o ∙ z.if-gives.false)) (x.latest-is ∙ z.1) l.invariant.1.0)
+                x.if-gives.branch-raw,
             (
               ap (λ (z : Latest). length z.marks) x.13
-                  ∙ (length-set (set x.4.latest.marks 8 x.8.result) 9 x.11.result
-                  ∙ (length-set x.4.latest.marks 8 x.8.result ∙ x.4.inv.1.1.0)),
+                  ∙ (length-set (set x.loop-part.latest.marks 8 x.later-then-is_due.result) 9 x.later-then-is_due-2.result
+                  ∙ (length-set x.loop-part.latest.marks 8 x.later-then-is_due.result ∙ x.loop-part.invariant.1.1.0)),
               λ q w.
                   keeps_turn (latest_with later_turn (λ d. is_due k d && tells q d)) mark_due (get_or l.latest.marks q nothing) _
                   (latest_due q s t (slices_of (table k))) (place k) (here k) _ _ (next k)
                   (λ m. later_of (tells q (here k)) (mark_of (place k) (here k)) m)
                   (mark_turn (is_due k) q (place k) (here k) y)
                   (ap (λ (z : Latest). get_or z.marks q nothing) x.13
-                  ∙ (all_noted k x.3.result x.8.result x.11.result l.latest.marks x.4.latest.marks x.4.part
-                  x.4.inv.1.0 x.5.left x.4.inv.1.1.0 x.4.inv.1.1.1
-                  (x.8.ensures ∙ ap (λ b. later_of b x.3.result (get_or x.4.latest.marks 8 nothing)) x.7.ensures)
-                  (x.11.ensures
-                  ∙ ap (λ b. later_of b x.3.result (get_or (set x.4.latest.marks 8 x.8.result) 9 nothing))
-                  x.10.ensures) q w
-                  ∙ (ap (λ (m : Mark). step k m q (get_or l.latest.marks q nothing)) (x.3.ensures (stride k))
+                  ∙ (all_noted k x.mark_of-new.result x.later-then-is_due.result x.later-then-is_due-2.result l.latest.marks x.loop-part.latest.marks x.loop-part.part
+                  x.loop-part.invariant.1.0 x.loop-part-test.false x.loop-part.invariant.1.1.0 x.loop-part.invariant.1.1.1
+                  (x.later-then-is_due.ensures ∙ ap (λ b. later_of b x.mark_of-new.result (get_or x.loop-part.latest.marks 8 nothing)) x.gives-then-is_due.ensures)
+                  (x.later-then-is_due-2.ensures
+                  ∙ ap (λ b. later_of b x.mark_of-new.result (get_or (set x.loop-part.latest.marks 8 x.later-then-is_due.result) 9 nothing))
+                  x.gives-then-is_due-2.ensures) q w
+                  ∙ (ap (λ (m : Mark). step k m q (get_or l.latest.marks q nothing)) (x.mark_of-new.ensures (stride k))
                   ∙ ap (λ (d : Slice). later_of (tells q d) (mark_of (place k) d) (get_or l.latest.marks q nothing))
                   (read k).seen)))
                   (l.invariant.1.1.1 q w),
             ),
           ))
-          (λ x. let n : is_due k (here k) ≡ false = sym (told c.before) ∙ x.0.left in (
+          (λ x. let n : is_due k (here k) ≡ false = sym (told c.before) ∙ x.if-is_due.false in (
             keeps_past (tally_with f) (λ few. few) l.openings _ (all k) (place k) (here k) _ _ (next k)
-                (tally_past f (place k) (here k) (opens_told s t (here k) false n)) x.1 l.invariant.1.0,
+                (tally_past f (place k) (here k) (opens_told s t (here k) false n)) x.latest-is l.invariant.1.0,
             (
               ap (λ (z : Latest). length z.marks) x.2 ∙ l.invariant.1.1.0,
               λ q w.
@@ -228,31 +228,31 @@ loop-again c =
                   (l.invariant.1.1.1 q w),
             ),
           ))
-          c.if1.branch,
+          c.if-is_due.branch-raw,
     )
 
 returns : tie.Need-returns invariant-loop2 decreases-loop2 invariant-loop decreases-loop
 returns c =
-    let l = c.before.loop in
+    let l = c.before.loop-i in
     let a = c.before.before.before.before.before.before.before.before.before.before.args in
     let p = a.permanent.now in
-    let s = c.before.before.before.Since-of.result in
-    let together = c.before.before.before.before.together in
-    let front = c.before.before.before.before.before.front_of in
+    let s = c.before.before.before.since_of-since.result in
+    let together = c.before.before.before.before.together-bases in
+    let front = c.before.before.before.before.before.front_of-front in
     let done = slices_end p l.i (omega arith) in (
       together.ensures ∙ (ap (λ (b : Bases). join_few b.fixed b.endless) front.ensures.0 ∙ bases_stand a.instant (slices_of p)),
       (
         keeps_end (tally_with (opens_due s a.instant)) (λ few. few) l.openings
             (tally_from (opens_due s a.instant) 0 Zero (slices_of p)) l.i _ done l.invariant.1.0
             ∙ ap (λ (t : Instant). tally_from (opens_due t a.instant) 0 Zero (slices_of p))
-            c.before.before.before.Since-of.ensures,
+            c.before.before.before.since_of-since.ensures,
         (
           l.invariant.1.1.0,
           λ q w.
               keeps_end (latest_with later_turn (λ d. due s a.instant d && tells q d)) mark_due (get_or l.latest.marks q nothing)
               (latest_due q s a.instant (slices_of p)) l.i _ done (l.invariant.1.1.1 q w)
               ∙ ap (λ (t : Instant). mark_due (latest_due q t a.instant (slices_of p)))
-              c.before.before.before.Since-of.ensures,
+              c.before.before.before.since_of-since.ensures,
         ),
       ),
     )

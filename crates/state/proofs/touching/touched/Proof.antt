@@ -17,33 +17,33 @@ use Rattle.state.proofs.touching.touched.Statement.{statement}
 use Rattle.state.proofs.touching.touched.Tie as tie
 
 -- the table is sound
-module _ (c : tie.After-enum-told) where
+module _ (c : tie.In_default) where
   abbrev start : tie.Start
   start = c.before.before.before.before
 
   sound : check_table Temporary start.args.temporary.now ≡ Sound
-  sound = sym (checked_told _ _ c.before.before.check-table.ensures) ∙ c.enum_told.given.1
+  sound = sym (checked_told _ _ c.before.before.check_table.ensures) ∙ c.enum_told-1.given.1
 
 -- 19, as the code tests it
-test : (c : tie.After-is-none) → let a = (start c.before).args in
+test : (c : tie.After-is_none) → let a = (start c.before).args in
     (c.is_none.result || ltb 7 a.property) ≡ (is_none a.instant || ltb 7 a.property)
 test c = ap (λ b. b || ltb 7 (start c.before).args.property) c.is_none.ensures
 
-small : (c : tie.Else1) → (start c.before.before).args.property < 8
+small : (c : tie.Else-is_none-property) → (start c.before.before).args.property < 8
 small c =
     let e : ltb 7 (start c.before.before).args.property ≡ false =
-    (or_neither c.before.is_none.result _ c.if1.false).1 in
+    (or_neither c.before.is_none.result _ c.if-is_none-property.false).1 in
     omega tests
 
-returns : tie.Need-returns
+returns : tie.Need-returns-in-Refused
 returns c =
-    let checked = checked_told _ _ c.before.before.before.check-table.ensures in
-    ap touched_reply (touched_refused _ _ _ _ (sym checked ∙ c.before.refusal.given.1))
+    let checked = checked_told _ _ c.before.check_table.ensures in
+    ap touched_reply (touched_refused _ _ _ _ (sym checked ∙ c.before.refusal-1.given.1))
 
-returns-3 : tie.Need-returns-3
+returns-3 : tie.Need-returns
 returns-3 c =
     let k = c.before.before in
-    ap touched_reply (c.look-down.ensures ∙ touched_left _ _ _ (sound k.before) (sym (test k) ∙ c.before.if1.false))
+    ap touched_reply (c.look_down.ensures ∙ touched_left _ _ _ (sound k.before) (sym (test k) ∙ c.before.if-is_none-property.false))
 
 pub touched_spec : {M : Type 1} → statement M
 touched_spec =
@@ -54,6 +54,6 @@ touched_spec =
     returns
     (λ c. search rules)
     (λ c κs. search rules)
-    (λ c. ap touched_reply (touched_none _ _ _ (sound c.before.before) (sym (test c.before) ∙ c.if1.true)))
+    (λ c. ap touched_reply (touched_none _ _ _ (sound c.before.before) (sym (test c.before) ∙ c.if-is_none-property.true)))
     (λ c κs. ((sound_table Temporary _ (sound c.before.before)).roomy, small c))
     returns-3)

@@ -35,7 +35,7 @@ returns c =
     let a = s.args in
     p.put.ensures
     ∙ ap (λ (l : List ℕ). pasted l (32 + a.at * a.size) a.«record».now)
-    (o.open-gap.ensures
+    (o.open_gap.ensures
     ∙ ap (λ (l : List ℕ). opened l (32 + a.at * a.size) (32 + a.count * a.size) a.size) q.put16.ensures)
     ∙ put_in _ _ _ _ _ s.requires.3 s.requires.0 s.requires.1 s.requires.2
 

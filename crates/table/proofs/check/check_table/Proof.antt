@@ -25,118 +25,118 @@ abbrev Answer : tie.Start → Checked
 Answer s = check_table s.args.sides (T s)
 
 -- past each test: what is left of the check
-abbrev s1 : tie.Else1 → tie.Start
+abbrev s1 : tie.Else-table-lt32 → tie.Start
 s1 c = c.before.before
 
-past1 : (c : tie.Else1) → Answer (s1 c) ≡ from2 (s1 c).args.sides (T (s1 c))
-past1 c = table_is _ _ ∙ rw (le-ltb _ _ c.if1.false)
+past1 : (c : tie.Else-table-lt32) → Answer (s1 c) ≡ from2 (s1 c).args.sides (T (s1 c))
+past1 c = table_is _ _ ∙ rw (le-ltb _ _ c.if-table-lt32.false)
 
 -- the letters and the side that were looked at
-named : (c : tie.After-takes-side) → let s = s1 c.before.before.before in
-    (c.before.is-lettered.result && c.takes-side.result) ≡ (lettered (T s) && takes s.args.sides (side_of (T s)))
+named : (c : tie.After-takes_side) → let s = s1 c.before.before.before in
+    (c.before.is_lettered.result && c.takes_side.result) ≡ (lettered (T s) && takes s.args.sides (side_of (T s)))
 named c =
     let s = s1 c.before.before.before in
-    (λ i. c.before.is-lettered.ensures i
-    && (c.takes-side.ensures ∙ ap (takes s.args.sides) c.before.before.side-of.ensures) i)
+    (λ i. c.before.is_lettered.ensures i
+    && (c.takes_side.ensures ∙ ap (takes s.args.sides) c.before.before.side_of-side.ensures) i)
 
-abbrev s2 : tie.Else2 → tie.Start
+abbrev s2 : tie.Else-not-is_lettered-takes_side → tie.Start
 s2 c = s1 c.before.before.before.before
 
-past2 : (c : tie.Else2) → Answer (s2 c) ≡ from3 (s2 c).args.sides (T (s2 c))
-past2 c = past1 c.before.before.before.before ∙ rw (sym (named c.before) ∙ not-false _ c.if2.false)
+past2 : (c : tie.Else-not-is_lettered-takes_side) → Answer (s2 c) ≡ from3 (s2 c).args.sides (T (s2 c))
+past2 c = past1 c.before.before.before.before ∙ rw (sym (named c.before) ∙ c.if-not-is_lettered-takes_side.false)
 
-abbrev s3 : tie.Else3 → tie.Start
+abbrev s3 : tie.Else-be16-ne1 → tie.Start
 s3 c = s2 c.before.before
 
-past3 : (c : tie.Else3) → Answer (s3 c) ≡ from4 (s3 c).args.sides (T (s3 c))
-past3 c = past2 c.before.before ∙ rw (eq-eqb _ _ (sym c.before.be16.ensures ∙ c.if3.false))
+past3 : (c : tie.Else-be16-ne1) → Answer (s3 c) ≡ from4 (s3 c).args.sides (T (s3 c))
+past3 c = past2 c.before.before ∙ rw (eq-eqb _ _ (sym c.before.be16.ensures ∙ c.if-be16-ne1.false))
 
-abbrev s4 : tie.Else4 → tie.Start
+abbrev s4 : tie.Else-not-blank8 → tie.Start
 s4 c = s3 c.before.before
 
-past4 : (c : tie.Else4) → Answer (s4 c) ≡ from5 (s4 c).args.sides (T (s4 c))
-past4 c = past3 c.before.before ∙ rw (sym c.before.blank8.ensures ∙ not-false _ c.if4.false)
+past4 : (c : tie.Else-not-blank8) → Answer (s4 c) ≡ from5 (s4 c).args.sides (T (s4 c))
+past4 c = past3 c.before.before ∙ rw (sym c.before.blank8.ensures ∙ c.if-not-blank8.false)
 
 -- the stride, the count and the room that were read
-abbrev s5 : tie.After-room-of → tie.Start
+abbrev s5 : tie.After-room_of → tie.Start
 s5 c = s4 c.before.before.before.before
 
-abbrev Size : tie.After-room-of → ℕ
+abbrev Size : tie.After-room_of → ℕ
 Size c = record_size (stride_of (T (s5 c)))
 
-sized : (c : tie.After-room-of) → c.before.before.record-size.result ≡ Size c
-sized c = c.before.before.record-size.ensures
+sized : (c : tie.After-room_of) → c.before.before.record_size-size.result ≡ Size c
+sized c = c.before.before.record_size-size.ensures
 
-room : (c : tie.After-room-of) → c.room_of.result ≡ room_of (Size c) (T (s5 c))
+room : (c : tie.After-room_of) → c.room_of.result ≡ room_of (Size c) (T (s5 c))
 room c = c.room_of.ensures ∙ ap (λ (k : ℕ). room_of k (T (s5 c))) (sized c)
 
-count : (c : tie.After-room-of) → c.before.count_of.result ≡ count_of (T (s5 c))
-count c = c.before.count_of.ensures
+count : (c : tie.After-room_of) → c.before.count_of-count.result ≡ count_of (T (s5 c))
+count c = c.before.count_of-count.ensures
 
-roomy : (c : tie.Else5) → count_of (T (s5 c.before)) ≤ room_of (Size c.before) (T (s5 c.before))
-roomy c = omega (arith, room c.before, count c.before, c.if5.false)
+roomy : (c : tie.Else-room_of-count) → count_of (T (s5 c.before)) ≤ room_of (Size c.before) (T (s5 c.before))
+roomy c = omega (arith, room c.before, count c.before, c.if-room_of-count.false)
 
-over : (c : tie.Then5) → room_of (Size c.before) (T (s5 c.before)) < count_of (T (s5 c.before))
-over c = omega (arith, room c.before, count c.before, c.if5.true)
+over : (c : tie.Then-room_of-count) → room_of (Size c.before) (T (s5 c.before)) < count_of (T (s5 c.before))
+over c = omega (arith, room c.before, count c.before, c.if-room_of-count.true)
 
-past5 : (c : tie.Else5) → Answer (s5 c.before) ≡ from6 (s5 c.before).args.sides (T (s5 c.before))
+past5 : (c : tie.Else-room_of-count) → Answer (s5 c.before) ≡ from6 (s5 c.before).args.sides (T (s5 c.before))
 past5 c = past4 c.before.before.before.before.before ∙ rw (le-ltb _ _ (roomy c))
 
 -- the review of the records, in the definition's own numbers
-review-is : (c : tie.After-check-records) → let k = c.before.before.before in
-    c.check-records.result ≡ review_of (stride_of (T (s5 k))) (side_of (T (s5 k))) (records_of (Size k) (T (s5 k)))
+review-is : (c : tie.After-check_records) → let k = c.before.before.before in
+    c.check_records.result ≡ review_of (stride_of (T (s5 k))) (side_of (T (s5 k))) (records_of (Size k) (T (s5 k)))
 unfolding records_of
 review-is c =
     let k = c.before.before.before in
-    let side = k.before.before.before.before.before.before.before.before.before.before.before.side-of.ensures in
-    c.check-records.ensures
-    ∙ (λ i. review_of (k.before.before.before.stride-of.ensures i) (side i)
+    let side = k.before.before.before.before.before.before.before.before.before.before.before.side_of-side.ensures in
+    c.check_records.ensures
+    ∙ (λ i. review_of (k.before.before.before.stride_of-stride.ensures i) (side i)
     (pieces (sized k i) (count k i) (rest_whole 32 (T (s5 k)) i)))
 
-past6 : (c : tie.After-enum-told)
-    → let k = c.before.before.before.before.before in Answer (s5 k) ≡ from7 (s5 k).args.sides (T (s5 k))
+past6 : (c : tie.In-AllSound)
+    → let k = c.before.before.before.before in Answer (s5 k) ≡ from7 (s5 k).args.sides (T (s5 k))
 past6 c =
-    let f = c.before.before in past5 f.before.before ∙ rw (review_passes _ _ _ (sym (review-is f) ∙ c.enum_told.given.1))
+    let f = c.before in past5 f.before.before ∙ rw (review_passes _ _ _ (sym (review-is f) ∙ c.in-AllSound.is))
 
-order_is : (c : tie.After-is-in-order)
-    → let k = c.before.before.before.before.before.before in c.is-in-order.result ≡ in_order (records_of (Size k) (T (s5 k)))
+order_is : (c : tie.After-is_in_order)
+    → let k = c.before.before.before.before.before in c.is_in_order.result ≡ in_order (records_of (Size k) (T (s5 k)))
 order_is c =
-    let k = c.before.before.before.before.before.before in
-    c.is-in-order.ensures ∙ ap (λ (n : ℕ). in_order (records_of n (T (s5 k)))) (sized k)
+    let k = c.before.before.before.before.before in
+    c.is_in_order.ensures ∙ ap (λ (n : ℕ). in_order (records_of n (T (s5 k)))) (sized k)
 
-returns : tie.Need-returns
-returns c = ap checked_reply (sym (table_is _ _ ∙ rw (lt-ltb _ _ c.if1.true)))
+returns : tie.Need-returns-then-table-lt32
+returns c = ap checked_reply (sym (table_is _ _ ∙ rw (lt-ltb _ _ c.if-table-lt32.true)))
 
-returns-2 : tie.Need-returns-2
+returns-2 : tie.Need-returns-then-not-is_lettered-takes_side
 returns-2 c =
-    ap checked_reply (sym (past1 c.before.before.before.before ∙ rw (sym (named c.before) ∙ not-true _ c.if2.true)))
+    ap checked_reply (sym (past1 c.before.before.before.before ∙ rw (sym (named c.before) ∙ c.if-not-is_lettered-takes_side.true)))
 
-returns-3 : tie.Need-returns-3
+returns-3 : tie.Need-returns-then-be16-ne1
 returns-3 c =
-    ap checked_reply (sym (past2 c.before.before ∙ rw (ne_eqb _ _ (λ e. c.if3.true (c.before.be16.ensures ∙ e)))))
+    ap checked_reply (sym (past2 c.before.before ∙ rw (ne_eqb _ _ (λ e. c.if-be16-ne1.true (c.before.be16.ensures ∙ e)))))
 
-returns-4 : tie.Need-returns-4
+returns-4 : tie.Need-returns-then-not-blank8
 returns-4 c =
-    ap checked_reply (sym (past3 c.before.before ∙ rw (sym c.before.blank8.ensures ∙ not-true _ c.if4.true)))
+    ap checked_reply (sym (past3 c.before.before ∙ rw (sym c.before.blank8.ensures ∙ c.if-not-blank8.true)))
 
-returns-5 : tie.Need-returns-5
+returns-5 : tie.Need-returns-then-room_of-count
 returns-5 c =
     let k = c.before in
     ap checked_reply (sym (past4 k.before.before.before.before ∙ rw (lt-ltb _ _ (over c))))
 
-returns-6 : tie.Need-returns-6
+returns-6 : tie.Need-returns-in_default
 returns-6 c =
-    let f = c.before.before in
+    let f = c.before in
     ap checked_reply
-    (sym (past5 f.before.before ∙ rw (review_fails _ _ _ _ _ (sym (review-is f) ∙ c.enum-told2.given.1))))
+    (sym (past5 f.before.before ∙ rw (review_fails _ _ _ _ _ (sym (review-is f) ∙ c.in_default.is))))
 
-returns-7 : tie.Need-returns-7
+returns-7 : tie.Need-returns-then-not-is_in_order
 returns-7 c =
-    ap checked_reply (sym (past6 c.before.before ∙ rw (sym (order_is c.before) ∙ not-true _ c.if6.true)))
+    ap checked_reply (sym (past6 c.before.before ∙ rw (sym (order_is c.before) ∙ c.if-not-is_in_order.true)))
 
-returns-8 : tie.Need-returns-8
+returns-8 : tie.Need-returns
 returns-8 c =
-    ap checked_reply (sym (past6 c.before.before ∙ rw (sym (order_is c.before) ∙ not-false _ c.if6.false)))
+    ap checked_reply (sym (past6 c.before.before ∙ rw (sym (order_is c.before) ∙ c.if-not-is_in_order.false)))
 
 pub check_table_spec : {M : Type 1} → statement M
 check_table_spec =
