@@ -15,40 +15,40 @@ use borrow.Author.Rules.{rules}
 use Rattle.text.proofs.lines.put_forms.Statement.{statement}
 use Rattle.text.proofs.lines.put_forms.Tie as tie
 
-abbrev invariant-loop : tie.invariant-loop
+abbrev invariant-loop : tie.invariant-loop-i
 invariant-loop s₀ at «record» stride end₀ i₀ s end i =
     (i ≤ 8) × (length s ≡ length s₀) × Wrote i s₀ at (map form_of (take i (parts_of stride «record»))) s end
 
-abbrev decreases-loop : tie.decreases-loop
+abbrev decreases-loop : tie.decreases-loop-i
 decreases-loop s₀ at «record» stride end₀ i₀ s end i = 8 - i
 
 -- a property's place is small
-place : (c : tie.After-put-letters-arg invariant-loop decreases-loop)
-    → let l = c.before.before in l.loop.i * l.before.before.before.args.stride ≤ 32768
+place : (c : tie.After-put_letters-arg-1 invariant-loop decreases-loop)
+    → let l = c.before.before in l.loop-i.i * l.before.before.before.args.stride ≤ 32768
 place c =
     let l = c.before.before in
     let a = l.before.before.before in
-    omega (arith, piece_within a.args.stride l.loop.i 8 c.before.loop-test.true, a.requires.1.1)
+    omega (arith, piece_within a.args.stride l.loop-i.i 8 c.before.loop-i-test.true, a.requires.1.1)
 
-loop-again : tie.Need-loop-preserved invariant-loop decreases-loop
+loop-again : tie.Need-loop-i-preserved invariant-loop decreases-loop
 loop-again c =
     let p = c.before.before in
     let b = p.before.before in
     let l = b.before.before.before in
     let a = l.before.before.before in
-    let form = rw b.byte.ensures at p.put-letters.ensures in (
+    let form = rw b.byte.ensures at p.put_letters-end.ensures in (
       omega arith,
       omega arith,
-      rw (forms_more a.args.stride a.args.«record».now l.loop.i a.requires.1.0 (omega arith))
-          (then (omega arith) l.loop.invariant.2 form),
+      rw (forms_more a.args.stride a.args.«record».now l.loop-i.i a.requires.1.0 (omega arith))
+          (then (omega arith) l.loop-i.invariant.2 form),
     )
 
 returns : tie.Need-returns invariant-loop decreases-loop
 unfolding properties_of
 returns c =
     let l = c.before in
-    let e : l.loop.i ≡ 8 = omega arith in
-    rw e at l.loop.invariant.2
+    let e : l.loop-i.i ≡ 8 = omega arith in
+    rw e at l.loop-i.invariant.2
 
 pub put_forms_spec : {M : Type 1} → statement M
 put_forms_spec =

@@ -20,50 +20,50 @@ use Rattle.text.proofs.lines.put_lines.Tie as tie
 abbrev records : List ℕ → List (List ℕ)
 records t = records_of (record_size (stride_of t)) t
 
-abbrev invariant-loop : tie.invariant-loop
+abbrev invariant-loop : tie.invariant-loop-i
 invariant-loop s₀ at table stride size count end₀ i₀ s end i =
     (i ≤ count) × (length s ≡ length s₀)
     × Wrote (42 * i) s₀ at (joined (map (line_of (stride_of table)) (take i (records table)))) s end
 
-abbrev decreases-loop : tie.decreases-loop
+abbrev decreases-loop : tie.decreases-loop-i
 decreases-loop s₀ at table stride size count end₀ i₀ s end i = count - i
 
-abbrev start : tie.After-stride-of invariant-loop decreases-loop → tie.Start invariant-loop decreases-loop
+abbrev start : tie.After-stride_of-stride invariant-loop decreases-loop → tie.Start invariant-loop decreases-loop
 start c = c.before.before.before
 
-abbrev table : tie.After-stride-of invariant-loop decreases-loop → List ℕ
+abbrev table : tie.After-stride_of-stride invariant-loop decreases-loop → List ℕ
 table c = (start c).args.table.now
 
 -- a turn
-abbrev looped : tie.After-record-at invariant-loop decreases-loop → tie.At-loop invariant-loop decreases-loop
+abbrev looped : tie.After-record_at invariant-loop decreases-loop → tie.At-loop-i invariant-loop decreases-loop
 looped r = r.before.before.before
 
-abbrev first : tie.After-record-at invariant-loop decreases-loop → tie.After-stride-of invariant-loop decreases-loop
+abbrev first : tie.After-record_at invariant-loop decreases-loop → tie.After-stride_of-stride invariant-loop decreases-loop
 first r = (looped r).before.before.before
 
-more : (r : tie.After-record-at invariant-loop decreases-loop) → (looped r).loop.i < count_of (table (first r))
-more r = omega (arith, (looped r).before.count_of.ensures, r.before.before.loop-test.true)
+more : (r : tie.After-record_at invariant-loop decreases-loop) → (looped r).loop-i.i < count_of (table (first r))
+more r = omega (arith, (looped r).before.count_of-count.ensures, r.before.before.loop-i-test.true)
 
-room : (r : tie.After-record-at invariant-loop decreases-loop) → (looped r).loop.end + 42 ≤ length (looped r).loop.s
-room r = let w = (looped r).loop.invariant in omega (arith, more r, w.1, w.2.next, w.2.few, (start (first r)).pre.1)
+room : (r : tie.After-record_at invariant-loop decreases-loop) → (looped r).loop-i.end + 42 ≤ length (looped r).loop-i.s
+room r = let w = (looped r).loop-i.invariant in omega (arith, more r, w.1, w.2.next, w.2.few, (start (first r)).requires.1)
 
-read : (r : tie.After-record-at invariant-loop decreases-loop)
-    → r.record-at.result.now ≡ get_or (records (table (first r))) (looped r).loop.i []
+read : (r : tie.After-record_at invariant-loop decreases-loop)
+    → r.record_at.result.now ≡ get_or (records (table (first r))) (looped r).loop-i.i []
 read r =
     let t = table (first r) in
-    read_by t (looped r).loop.i (looped r).before.before.record-size.ensures r.record-at.ensures.0
-    ∙ record_is (record_size (stride_of t)) t (looped r).loop.i (more r) (start (first r)).pre.0
+    read_by t (looped r).loop-i.i (looped r).before.before.record_size-size.ensures r.record_at.ensures.0
+    ∙ record_is (record_size (stride_of t)) t (looped r).loop-i.i (more r) (start (first r)).requires.0
 
-loop-again : tie.Need-loop-preserved invariant-loop decreases-loop
+loop-again : tie.Need-loop-i-preserved invariant-loop decreases-loop
 loop-again c =
     let p = c.before.before in
     let r = p.before in
-    let l = (looped r).loop in
+    let l = (looped r).loop-i in
     let t = table (first r) in
-    let line : line_of (first r).stride-of.result r.record-at.result.now ≡ line_of (stride_of t) (get_or (records t) l.i []) =
-    λ j. line_of ((first r).stride-of.ensures j) (read r j) in
+    let line : line_of (first r).stride_of-stride.result r.record_at.result.now ≡ line_of (stride_of t) (get_or (records t) l.i []) =
+    λ j. line_of ((first r).stride_of-stride.ensures j) (read r j) in
     let k : 42 * l.i + 42 ≡ 42 * (l.i + 1) = omega arith in
-    let w = then (omega (arith, more r, (start (first r)).pre.1)) l.inv.2 (rw line at p.put-line.ensures) in (
+    let w = then (omega (arith, more r, (start (first r)).requires.1)) l.invariant.2 (rw line at p.put_line-end.ensures) in (
       omega arith,
       omega arith,
       rw (
@@ -79,9 +79,9 @@ returns c =
     let l = c.before in
     let k = l.before in
     let t = table k.before.before in
-    let e : l.loop.i ≡ count_of t = omega (arith, k.count_of.ensures) in
+    let e : l.loop-i.i ≡ count_of t = omega (arith, k.count_of-count.ensures) in
     let all = take_all (count_of t) (records t) (omega (arith, records_length (record_size (stride_of t)) t)) in
-    rw (e, all) at l.loop.invariant.2
+    rw (e, all) at l.loop-i.invariant.2
 
 pub put_lines_spec : {M : Type 1} → statement M
 put_lines_spec =
@@ -93,9 +93,9 @@ put_lines_spec =
     (λ c κs. search rules)
     (λ c κs. search rules)
     (λ c. search rules)
-    (λ c. (omega arith, refl, wrote_none _ _ (omega (arith, (start c.before.before).pre.1))))
+    (λ c. (omega arith, refl, wrote_none _ _ (omega (arith, (start c.before.before).requires.1))))
     (λ c κs. search rules)
-    (λ r κs. (room r, (omega (arith, (first r).stride-of.ensures), omega (arith, (first r).stride-of.ensures))))
+    (λ r κs. (room r, (omega (arith, (first r).stride_of-stride.ensures), omega (arith, (first r).stride_of-stride.ensures))))
     (λ c. search rules)
     (λ c. search rules)
     loop-again
