@@ -1,5 +1,4 @@
 -- `octets::be64` meets its contract: the number of the bytes, the lowest first, turned around. Assumes nothing.
-use borrow.Author.Rules.{rules}
 use Rattle.octets.proofs.Runs.{turn_told}
 use Rattle.octets.proofs.be64.Goals as goal
 

@@ -1,6 +1,5 @@
 -- `octets::blank8` meets its contract: 8 bytes that are there are 0 each where their number is. Assumes nothing.
 use native.Mathlib.Omega.{arith}
-use borrow.Author.Rules.{rules}
 use Rattle.octets.proofs.Runs.{filled_low, filled_short}
 use Rattle.octets.proofs.blank8.Goals as goal
 

@@ -1,7 +1,6 @@
 -- `octets::byte` meets its contract: past the end the list gives its default. Assumes nothing.
 use mathlib.Core.Path.{sym}
 use lib.ListN.{get_or-eq_default}
-use borrow.Author.Rules.{rules}
 use Rattle.octets.proofs.byte.Goals as goal
 
 pub returns-else-at-s : goal.returns-else-at-s

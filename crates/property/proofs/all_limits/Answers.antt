@@ -1,5 +1,4 @@
 -- `property::all_limits` meets its contract: each row has its limits. Assumes nothing.
-use borrow.Author.Rules.{rules}
 use Rattle.property.proofs.all_limits.Goals as goal
 
 pub returns : goal.returns

@@ -1,6 +1,5 @@
 -- `property::held` meets its contract: the readers' numbers hold the value. Assumes nothing.
 use Rattle.property.proofs.Sound.{held_told}
-use borrow.Author.Rules.{rules}
 use Rattle.property.proofs.held.Goals as goal
 
 pub returns : goal.returns

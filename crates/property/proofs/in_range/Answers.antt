@@ -1,7 +1,6 @@
 -- `property::in_range` meets its contract: each number is within its limit. Assumes nothing.
 use mathlib.Core.Path.{◌∙◌}
 use Rattle.property.proofs.Sound.{ninety, one_eighty}
-use borrow.Author.Rules.{rules}
 use Rattle.property.proofs.in_range.Goals as goal
 
 pub returns : goal.returns

@@ -1,6 +1,5 @@
 -- `property::is_blank` meets its contract: one run of zeros and the next. Assumes nothing.
 use Rattle.octets.proofs.Runs.{filled_join}
-use borrow.Author.Rules.{rules}
 use Rattle.property.proofs.is_blank.Goals as goal
 
 pub returns : goal.returns

@@ -1,5 +1,4 @@
 -- `property::limits_of` meets its contract: the limits are those of the definition. Assumes nothing.
-use borrow.Author.Rules.{rules}
 use Rattle.property.proofs.limits_of.Goals as goal
 
 pub returns : goal.returns

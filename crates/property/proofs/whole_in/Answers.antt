@@ -1,6 +1,5 @@
 -- `property::whole_in` meets its contract: the tests are those of the definition. Assumes nothing.
 use borrow.Author.Tests.{lt-ltb, le-ltb}
-use borrow.Author.Rules.{rules}
 use Rattle.property.proofs.whole_in.Goals as goal
 
 pub returns-then-stride-lt24 : goal.returns-then-stride-lt24

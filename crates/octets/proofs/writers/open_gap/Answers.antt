@@ -1,12 +1,9 @@
 -- `octets::writers::open_gap` meets its contract. The loop's invariant: the bytes from i up are moved. The measure is i.
 -- Assumes nothing.
-use Prim.Native.Nat.{◌+◌, ◌≤◌}
 use mathlib.Core.Path.{◌≡◌, refl, sym, ◌∙◌}
 use native.Mathlib.Omega.{arith}
-use lib.ListN.{length, length-set}
-use borrow.Author.Tests.{not-true, not-false, leb-true}
-use borrow.Author.Rules.{rules}
-use Rattle.octets.specs.Writing.{opened}
+use lib.ListN.{length-set}
+use borrow.Author.Tests.{leb-true}
 use Rattle.octets.proofs.Writing.{opened_none, opened_turned, opened_not, opened_turn}
 use Rattle.octets.proofs.writers.open_gap.Goals as goal
 

@@ -1,11 +1,7 @@
 use Prim.Native.Nat.{◌+◌, ◌≤◌}
-use mathlib.Core.Path.{◌≡◌, refl, sym, ◌∙◌}
-use native.Mathlib.Omega.{arith}
-use lib.ListN.{length, length-set}
-use borrow.Author.Tests.{not-true, not-false, leb-true}
-use borrow.Author.Rules.{rules}
+use mathlib.Core.Path.{◌≡◌}
+use lib.ListN.{length}
 use Rattle.octets.specs.Writing.{opened}
-use Rattle.octets.proofs.Writing.{opened_none, opened_turned, opened_not, opened_turn}
 use Rattle.octets.proofs.writers.open_gap.Given as goal
 
 abbrev pub invariant-loop-i : goal.invariant-loop-i

@@ -1,11 +1,9 @@
 -- `octets::writers::put` meets its contract. The loop's invariant: the first i bytes are written. Assumes nothing.
-use Prim.Native.Nat.{◌+◌, ◌-◌, ◌≤◌}
-use mathlib.Core.Path.{◌≡◌, refl, sym, ◌∙◌}
+use mathlib.Core.Path.{refl, sym, ◌∙◌}
 use native.Mathlib.Omega.{arith}
-use lib.ListN.{length, length-set}
-use borrow.Author.Tests.{not-true, not-false, leb-true}
-use borrow.Author.Rules.{rules}
-use Rattle.octets.proofs.Writing.{copying, copying_none, copying_turn, copying_all, pasted_not}
+use lib.ListN.{length-set}
+use borrow.Author.Tests.{leb-true}
+use Rattle.octets.proofs.Writing.{copying_none, copying_turn, copying_all, pasted_not}
 use Rattle.octets.proofs.writers.put.Goals as goal
 
 pub returns-then-not-has : goal.returns-then-not-has

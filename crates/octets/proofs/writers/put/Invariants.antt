@@ -1,10 +1,7 @@
 use Prim.Native.Nat.{◌+◌, ◌-◌, ◌≤◌}
-use mathlib.Core.Path.{◌≡◌, refl, sym, ◌∙◌}
-use native.Mathlib.Omega.{arith}
-use lib.ListN.{length, length-set}
-use borrow.Author.Tests.{not-true, not-false, leb-true}
-use borrow.Author.Rules.{rules}
-use Rattle.octets.proofs.Writing.{copying, copying_none, copying_turn, copying_all, pasted_not}
+use mathlib.Core.Path.{◌≡◌}
+use lib.ListN.{length}
+use Rattle.octets.proofs.Writing.{copying}
 use Rattle.octets.proofs.writers.put.Given as goal
 
 abbrev pub invariant-loop-i : goal.invariant-loop-i

@@ -4,7 +4,6 @@ use Prim.Native.Nat.{◌*◌}
 use mathlib.Core.Path.{◌≡◌, ◌∙◌}
 use native.Mathlib.Omega.{arith}
 use lib.ListN.{length, drop, length-drop}
-use borrow.Author.Rules.{rules}
 use Rattle.laws.proofs.Lists.{rest_whole}
 use Rattle.octets.specs.Bytes.{filled}
 use Rattle.octets.proofs.Runs.{filled_join, filled_drop}

@@ -1,5 +1,4 @@
 -- `slice::check::reserved_clear` meets its contract: the pieces are those of the definition. Assumes nothing.
-use borrow.Author.Rules.{rules}
 use Rattle.slice.specs.Check.{reserved_clear}
 use Rattle.slice.proofs.check.reserved_clear.Goals as goal
 

@@ -1,5 +1,4 @@
 -- `slice::rules::baseline_times` meets its contract: the pieces are those of the definition. Assumes nothing.
-use borrow.Author.Rules.{rules}
 use Rattle.slice.specs.Rules.{baseline_times}
 use Rattle.slice.proofs.rules.baseline_times.Goals as goal
 

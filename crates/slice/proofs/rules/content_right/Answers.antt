@@ -1,6 +1,5 @@
 -- `slice::rules::content_right` meets its contract: each return rewrites with the tests that led there. Assumes nothing.
 use borrow.Author.Tests.{ne_eqb}
-use borrow.Author.Rules.{rules}
 use Rattle.slice.specs.Rules.{content_of}
 use Rattle.slice.proofs.rules.content_right.Goals as goal
 

@@ -1,5 +1,4 @@
 -- `slice::rules::permdelta_times` meets its contract: the pieces are those of the definition. Assumes nothing.
-use borrow.Author.Rules.{rules}
 use Rattle.slice.specs.Rules.{permdelta_times}
 use Rattle.slice.proofs.rules.permdelta_times.Goals as goal
 

@@ -1,5 +1,4 @@
 -- `slice::rules::tempdelta_times` meets its contract: the pieces are those of the definition. Assumes nothing.
-use borrow.Author.Rules.{rules}
 use Rattle.slice.specs.Rules.{tempdelta_times}
 use Rattle.slice.proofs.rules.tempdelta_times.Goals as goal
 

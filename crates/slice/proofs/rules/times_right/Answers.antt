@@ -1,7 +1,6 @@
 -- `slice::rules::times_right` meets its contract: each return rewrites with the tests that led there. Assumes nothing.
 use mathlib.Core.Path.{sym, ◌∙◌}
 use borrow.Author.Tests.{ne_eqb}
-use borrow.Author.Rules.{rules}
 use Rattle.slice.specs.Rules.{times_of}
 use Rattle.slice.proofs.rules.times_right.Goals as goal
 

@@ -4,7 +4,6 @@ use mathlib.Core.Path.{◌∙◌, ap}
 use native.Mathlib.Omega.{arith}
 use lib.ListN.{length}
 use borrow.Author.Tests.{lt-ltb, le-ltb}
-use borrow.Author.Rules.{rules}
 use Rattle.slice.specs.Record.{key_of, same_key}
 use Rattle.table.specs.Header.{records_of}
 use Rattle.table.specs.Steps.{holds}

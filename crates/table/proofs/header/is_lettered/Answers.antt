@@ -1,5 +1,4 @@
 -- `table::header::is_lettered` meets its contract: the three bytes that were read are the table's. Assumes nothing.
-use borrow.Author.Rules.{rules}
 use Rattle.table.specs.Header.{lettered}
 use Rattle.table.proofs.header.is_lettered.Goals as goal
 
