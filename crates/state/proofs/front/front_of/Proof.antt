@@ -104,9 +104,9 @@ loop-again c =
             (λ x. keeps_turn (base_with t) (λ b. b) l.bases _ (all k) (place k) (here k) _ _ (next k)
             (λ b. held_with t (place k) (here k).period (closed_by (here k).period.begin b))
             (base_turn t (place k) (here k) (sym (told c.before) ∙ x.if-is_begun.true))
-            (x.held_with-bases
-            ∙ (x.closed_by.ensures
-            ∙ (ap (λ (b : Bases). held_with t (place k) x.period_of-period.result b) x.closed_by-arg-1.ensures
+            (x.bases-is
+            ∙ (x.held_with-bases.ensures
+            ∙ (ap (λ (b : Bases). held_with t (place k) x.period_of-period.result b) x.closed_by.ensures
             ∙ ap (λ (p : Period). held_with t (place k) p (closed_by p.begin l.bases))
             (x.period_of-period.ensures ∙ ap period_of (read k)))))
             l.invariant.1.0)

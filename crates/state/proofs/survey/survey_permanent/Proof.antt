@@ -53,17 +53,14 @@ decreases-loop permanent instant from to stride size count bases since openings�
 
 -- the record that a turn looks at, and the slice that it says
 module _ (k : tie.After-record_at-record invariant-loop2 decreases-loop2 invariant-loop decreases-loop) where
-  abbrev start : tie.Start invariant-loop2 decreases-loop2 invariant-loop decreases-loop
-  start = k.before.before.before.before.before.before.before.before.before.before.before
-
   abbrev table : List ℕ
-  table = start.args.permanent.now
+  table = k.args.permanent.now
 
   abbrev stride : ℕ
-  stride = k.before.before.before.before.before.before.before.before.before.stride_of-stride.result
+  stride = k.stride_of-stride.result
 
   abbrev place : ℕ
-  place = k.before.before.loop-i.i
+  place = k.loop-i.i
 
   abbrev here : Slice
   here = view_of (stride_of table) (record_at (record_size (stride_of table)) place table)
@@ -74,39 +71,39 @@ module _ (k : tie.After-record_at-record invariant-loop2 decreases-loop2 invaria
 
   -- a PERMDELTA that is due, that opens, and all that do
   abbrev is_due : Slice → Bool
-  is_due = due k.before.before.before.before.since_of-since.result start.args.instant
+  is_due = due k.since_of-since.result k.args.instant
 
   abbrev is_opening : Slice → Bool
-  is_opening = opens_due k.before.before.before.before.since_of-since.result start.args.instant
+  is_opening = opens_due k.since_of-since.result k.args.instant
 
   abbrev all : Few
   all = tally_from is_opening 0 Zero (slices_of table)
 
-  few : start.args.to ≤ 8
-  few = start.requires.1.1
+  few : k.args.to ≤ 8
+  few = k.requires.1.1
 
   below : place < count_of table
   below = omega arith
 
   read : Read table place stride k.record_at-record.result.now
-  read = read_here table place k.before.before.before.before.before.before.before.before.record_size-size.ensures
-      k.record_at-record.ensures.0 k.before.before.before.before.before.before.before.before.before.stride_of-stride.ensures
-      start.requires.0.whole below
+  read = read_here table place k.record_size-size.ensures
+      k.record_at-record.ensures.0 k.stride_of-stride.ensures
+      k.requires.0.whole below
 
   next : drop place (slices_of table) ≡ here ∷ drop (place + 1) (slices_of table)
-  next = slices_at table place below start.requires.0.whole
+  next = slices_at table place below k.requires.0.whole
 
   -- past the inner loop the properties are noted, and then the life times
-  all_noted : (new b e : Mark) (ms₀ ms₁ : List Mark) (part : ℕ) → part ≤ start.args.to → start.args.to ≤ part → length ms₁ ≡ 10
-      → Noted nothing start.args.from (step new) ms₀ ms₁ part → b ≡ step new 8 (get_or ms₁ 8 nothing)
+  all_noted : (new b e : Mark) (ms₀ ms₁ : List Mark) (part : ℕ) → part ≤ k.args.to → k.args.to ≤ part → length ms₁ ≡ 10
+      → Noted nothing k.args.from (step new) ms₀ ms₁ part → b ≡ step new 8 (get_or ms₁ 8 nothing)
       → e ≡ step new 9 (get_or (set ms₁ 8 b) 9 nothing)
-      → (q : ℕ) → wanted start.args.from start.args.to q ≡ true
+      → (q : ℕ) → wanted k.args.from k.args.to q ≡ true
       → get_or (set (set ms₁ 8 b) 9 e) q nothing ≡ step new q (get_or ms₀ q nothing)
   all_noted new b e ms₀ ms₁ part h g long done x y =
-      let z : part ≡ start.args.to = omega arith in
+      let z : part ≡ k.args.to = omega arith in
       let wide : length (set ms₁ 8 b) ≡ 10 = length-set ms₁ 8 b ∙ long in
-      noted_wanted nothing start.args.from start.args.to (step new) ms₀ ms₁ (set (set ms₁ 8 b) 9 e) few
-      (subst (Noted nothing start.args.from (step new) ms₀ ms₁) z done)
+      noted_wanted nothing k.args.from k.args.to (step new) ms₀ ms₁ (set (set ms₁ 8 b) 9 e) few
+      (subst (Noted nothing k.args.from (step new) ms₀ ms₁) z done)
       (noted_turn nothing 8 (step new) ms₁ (set ms₁ 8 b) 9 e (omega arith) (omega (arith, wide))
       (noted_turn nothing 8 (step new) ms₁ ms₁ 8 b (omega arith) (omega (arith, long)) (noted_start nothing 8 (step new) ms₁) x) y)
 
@@ -117,10 +114,10 @@ told v = let k = v.before in
 loop-holds : tie.Need-loop-i-init invariant-loop2 decreases-loop2 invariant-loop decreases-loop
 unfolding latest_due
 loop-holds c =
-    let a = c.before.before.before.before.before.before.before.before.args in
+    let a = c.args in
     let p = a.permanent.now in
-    let s = c.before.since_of-since.result in
-    let f = c.before.before.before.front_of-front in
+    let s = c.since_of-since.result in
+    let f = c.front_of-front in
     let most : f.result.end ≤ length (slices_of p) = omega (arith, f.ensures.1.0, slices_length p) in (
       omega (arith, f.ensures.1.0),
       (
@@ -148,11 +145,11 @@ loop-holds c =
 loop2-holds : tie.Need-loop-part-init invariant-loop2 decreases-loop2 invariant-loop decreases-loop
 loop2-holds c =
     let k = c.before.before.before.before.before in
-    let l = k.before.before.loop-i in (
+    let l = k.loop-i in (
       omega arith,
       (
-        (start k).requires.1.0,
-        (l.invariant.1.1.0, noted_start nothing (start k).args.from (step k c.mark_of-new.result) l.latest.marks),
+        k.requires.1.0,
+        (l.invariant.1.1.0, noted_start nothing k.args.from (step k c.mark_of-new.result) l.latest.marks),
       ),
     )
 
@@ -160,7 +157,7 @@ loop2-again : tie.Need-loop-part-preserved invariant-loop2 decreases-loop2 invar
 loop2-again c =
     let l = c.before.before.before.before in
     let k = l.before.before.before.before.before.before in
-    let new = l.before.mark_of-new.result in
+    let new = l.mark_of-new.result in
     let part = l.loop-part.part in
     let ms = l.loop-part.latest.marks in (
       omega arith,
@@ -168,9 +165,9 @@ loop2-again c =
         omega arith,
         (
           length-set ms part c.later.result ∙ l.loop-part.invariant.1.1.0,
-          noted_turn nothing (start k).args.from (step k new) k.before.before.loop-i.latest.marks ms part c.later.result
+          noted_turn nothing k.args.from (step k new) k.loop-i.latest.marks ms part c.later.result
               (omega arith) (omega (arith, few k, l.loop-part.invariant.1.1.0)) l.loop-part.invariant.1.1.1
-              (c.later.ensures ∙ ap (λ b. later_of b new (get_or ms part nothing)) c.before.mentions.ensures),
+              (c.later.ensures ∙ ap (λ b. later_of b new (get_or ms part nothing)) c.mentions.ensures),
         ),
       ),
     )
@@ -178,9 +175,9 @@ loop2-again c =
 loop-again : tie.Need-loop-i-preserved invariant-loop2 decreases-loop2 invariant-loop decreases-loop
 loop-again c =
     let k = c.before.before in
-    let l = k.before.before.loop-i in
-    let s = k.before.before.before.before.since_of-since.result in
-    let t = (start k).args.instant in
+    let l = k.loop-i in
+    let s = k.since_of-since.result in
+    let t = k.args.instant in
     let f = is_opening k in (
       omega arith,
       ⊎_elim
@@ -188,13 +185,13 @@ loop-again c =
           let o : f (here k) ≡ x.gives.result = opens_told s t (here k) true y ∙ sym (x.gives.ensures ∙ ap (tells 8) (read k).seen) in (
             ⊎_elim
                 (λ z. keeps_turn (tally_with f) (λ few. few) l.openings _ (all k) (place k) (here k) _ _ (next k)
-                (one_more (place k)) (tally_turn f (place k) (here k) (o ∙ z.if-gives.true)) (x.latest-is ∙ (z.2 ∙ z.tallied-openings.ensures))
+                (one_more (place k)) (tally_turn f (place k) (here k) (o ∙ z.if-gives.true)) (x.openings-is ∙ (z.openings-is ∙ z.tallied-openings.ensures))
                 l.invariant.1.0)
                 (λ z. keeps_past (tally_with f) (λ few. few) l.openings _ (all k) (place k) (here k) _ _ (next k)
-                (tally_past f (place k) (here k) (o ∙ z.if-gives.false)) (x.latest-is ∙ z.1) l.invariant.1.0)
+                (tally_past f (place k) (here k) (o ∙ z.if-gives.false)) (x.openings-is ∙ z.openings-is) l.invariant.1.0)
                 x.if-gives.branch-raw,
             (
-              ap (λ (z : Latest). length z.marks) x.13
+              ap (λ (z : Latest). length z.marks) x.latest-is
                   ∙ (length-set (set x.loop-part.latest.marks 8 x.later-then-is_due.result) 9 x.later-then-is_due-2.result
                   ∙ (length-set x.loop-part.latest.marks 8 x.later-then-is_due.result ∙ x.loop-part.invariant.1.1.0)),
               λ q w.
@@ -202,7 +199,7 @@ loop-again c =
                   (latest_due q s t (slices_of (table k))) (place k) (here k) _ _ (next k)
                   (λ m. later_of (tells q (here k)) (mark_of (place k) (here k)) m)
                   (mark_turn (is_due k) q (place k) (here k) y)
-                  (ap (λ (z : Latest). get_or z.marks q nothing) x.13
+                  (ap (λ (z : Latest). get_or z.marks q nothing) x.latest-is
                   ∙ (all_noted k x.mark_of-new.result x.later-then-is_due.result x.later-then-is_due-2.result l.latest.marks x.loop-part.latest.marks x.loop-part.part
                   x.loop-part.invariant.1.0 x.loop-part-test.false x.loop-part.invariant.1.1.0 x.loop-part.invariant.1.1.1
                   (x.later-then-is_due.ensures ∙ ap (λ b. later_of b x.mark_of-new.result (get_or x.loop-part.latest.marks 8 nothing)) x.gives-then-is_due.ensures)
@@ -217,14 +214,14 @@ loop-again c =
           ))
           (λ x. let n : is_due k (here k) ≡ false = sym (told c.before) ∙ x.if-is_due.false in (
             keeps_past (tally_with f) (λ few. few) l.openings _ (all k) (place k) (here k) _ _ (next k)
-                (tally_past f (place k) (here k) (opens_told s t (here k) false n)) x.latest-is l.invariant.1.0,
+                (tally_past f (place k) (here k) (opens_told s t (here k) false n)) x.openings-is l.invariant.1.0,
             (
-              ap (λ (z : Latest). length z.marks) x.2 ∙ l.invariant.1.1.0,
+              ap (λ (z : Latest). length z.marks) x.latest-is ∙ l.invariant.1.1.0,
               λ q w.
                   keeps_past (latest_with later_turn (λ d. is_due k d && tells q d)) mark_due (get_or l.latest.marks q nothing) _
                   (latest_due q s t (slices_of (table k))) (place k) (here k) _ _ (next k)
                   (latest_past later_turn (λ d. is_due k d && tells q d) (place k) (here k) (ap (λ b. b && tells q (here k)) n))
-                  (ap (λ (z : Latest). get_or z.marks q nothing) x.2)
+                  (ap (λ (z : Latest). get_or z.marks q nothing) x.latest-is)
                   (l.invariant.1.1.1 q w),
             ),
           ))
@@ -233,26 +230,26 @@ loop-again c =
 
 returns : tie.Need-returns invariant-loop2 decreases-loop2 invariant-loop decreases-loop
 returns c =
-    let l = c.before.loop-i in
-    let a = c.before.before.before.before.before.before.before.before.before.before.args in
+    let l = c.loop-i in
+    let a = c.args in
     let p = a.permanent.now in
-    let s = c.before.before.before.since_of-since.result in
-    let together = c.before.before.before.before.together-bases in
-    let front = c.before.before.before.before.before.front_of-front in
+    let s = c.since_of-since.result in
+    let together = c.together-bases in
+    let front = c.front_of-front in
     let done = slices_end p l.i (omega arith) in (
       together.ensures ∙ (ap (λ (b : Bases). join_few b.fixed b.endless) front.ensures.0 ∙ bases_stand a.instant (slices_of p)),
       (
         keeps_end (tally_with (opens_due s a.instant)) (λ few. few) l.openings
             (tally_from (opens_due s a.instant) 0 Zero (slices_of p)) l.i _ done l.invariant.1.0
             ∙ ap (λ (t : Instant). tally_from (opens_due t a.instant) 0 Zero (slices_of p))
-            c.before.before.before.since_of-since.ensures,
+            c.since_of-since.ensures,
         (
           l.invariant.1.1.0,
           λ q w.
               keeps_end (latest_with later_turn (λ d. due s a.instant d && tells q d)) mark_due (get_or l.latest.marks q nothing)
               (latest_due q s a.instant (slices_of p)) l.i _ done (l.invariant.1.1.1 q w)
               ∙ ap (λ (t : Instant). mark_due (latest_due q t a.instant (slices_of p)))
-              c.before.before.before.since_of-since.ensures,
+              c.since_of-since.ensures,
         ),
       ),
     )
@@ -269,7 +266,7 @@ survey_permanent_spec =
     (λ c κs. search rules)
     (λ c κs. search rules)
     (λ c. search rules)
-    (λ c κs. c.before.before.before.before.requires.0)
+    (λ c κs. c.requires.0)
     (λ c κs. search rules)
     (λ c κs. search rules)
     (λ c κs. search rules)
