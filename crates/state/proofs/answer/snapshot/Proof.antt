@@ -12,7 +12,6 @@ use Rattle.table.specs.Rules.{check_table}
 use Rattle.table.specs.Steps.{Whole}
 use Rattle.table.specs.declared.check.Sides.TheVariants as sides
 use Rattle.table.proofs.Sound.{sound_table}
-use Rattle.history.specs.Anchor.{stands}
 use Rattle.history.specs.Permanent.{Standing, permanent_at}
 use Rattle.history.specs.Snapshot.{passing, overlaid, snapshot_at}
 use Rattle.state.specs.Asking.{slices_of, check_both, snapshot_of, outcome_of, outcome_reply, record_of}

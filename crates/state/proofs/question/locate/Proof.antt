@@ -16,7 +16,6 @@ use Rattle.table.specs.Steps.{Whole}
 use Rattle.table.specs.declared.check.Sides.TheVariants as sides
 use Rattle.table.proofs.Records.{room_most}
 use Rattle.table.proofs.Sound.{sound_table}
-use Rattle.history.specs.Anchor.{stands}
 use Rattle.history.specs.Permanent.{Standing, permanent_at}
 use Rattle.state.specs.Asking.{slices_of, check_both, place_at, place_of, place_reply}
 use Rattle.state.specs.Steps.{Walkable, since_of}

@@ -4,7 +4,6 @@ use Rattle.laws.specs.Replies.{Reply}
 use Rattle.state.specs.Asking.{source_of, source_reply}
 use Rattle.state.specs.declared.question.Place.{Place}
 use Rattle.state.proofs.Replies.{place_told}
-use borrow.Author.Rules.{rules}
 use Rattle.state.proofs.question.source_of.Goals as goal
 
 abbrev told : Place → Reply

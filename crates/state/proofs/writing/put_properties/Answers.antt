@@ -1,5 +1,5 @@
 -- `state::writing::put_properties` meets its contract. The loop's invariant: the first n properties are written. Assumes nothing.
-use Prim.Native.Nat.{ℕ, ◌+◌, ◌-◌, ◌*◌, ◌≤◌}
+use Prim.Native.Nat.{ℕ, ◌+◌, ◌*◌}
 use mathlib.Core.Path.{◌≡◌, refl, ap, ◌∙◌}
 use mathlib.Core.List.{List}
 use native.Mathlib.Omega.{arith}
@@ -10,7 +10,6 @@ use Rattle.octets.proofs.Writing.{pasted_length}
 use Rattle.table.specs.Header.{stride_of}
 use Rattle.state.specs.Steps.{nothing, property_by, property_from, run_of}
 use Rattle.state.proofs.Pasting.{run_pasted, run_length, pasted_none, from_length}
-use borrow.Author.Rules.{rules}
 use Rattle.state.proofs.writing.put_properties.Goals as goal
 
 pub put_latest-requires : goal.put_latest-requires
