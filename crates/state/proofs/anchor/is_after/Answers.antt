@@ -3,7 +3,6 @@ use Rattle.laws.specs.Orders.{lex_less}
 use Rattle.numbers.specs.Numbers.{numbers}
 use Rattle.history.specs.Permanent.{turn_less}
 use Rattle.state.specs.Steps.{after_start}
-use borrow.Author.Rules.{rules}
 use Rattle.state.proofs.anchor.is_after.Goals as goal
 
 pub returns-then-start : goal.returns-then-start

@@ -3,7 +3,6 @@ use mathlib.Core.Path.{sym, ap, ◌∙◌}
 use mathlib.Core.Bool.{not, ◌&&◌}
 use lib.Dec.{eqb}
 use Rattle.state.proofs.Marks.{origin_mark, origin_anchor, origin_none}
-use borrow.Author.Rules.{rules}
 use Rattle.state.proofs.anchor.origin.Goals as goal
 
 pub returns-then-mark-is_after : goal.returns-then-mark-is_after

@@ -1,7 +1,6 @@
 -- `state::front::closed_by` meets its contract: a case for each. Assumes nothing.
 use mathlib.Core.Path.{sym, ◌∙◌}
 use Rattle.state.proofs.Bases.{closed_later, closed_not}
-use borrow.Author.Rules.{rules}
 use Rattle.state.proofs.front.closed_by.Goals as goal
 
 pub returns-then-precedes : goal.returns-then-precedes

@@ -1,9 +1,7 @@
 -- `state::front::is_begun` meets its contract: the tests are those of the definition. Assumes nothing.
 use mathlib.Core.Path.{sym, ◌∙◌}
-use borrow.Author.Tests.{not-true, not-false}
 use Rattle.slice.specs.Record.{view_of}
 use Rattle.history.specs.Parts.{begun}
-use borrow.Author.Rules.{rules}
 use Rattle.state.proofs.front.is_begun.Goals as goal
 
 pub returns-then-not-is_counted : goal.returns-then-not-is_counted

@@ -5,7 +5,6 @@ use native.Mathlib.Omega.{arith}
 use Rattle.slice.specs.Record.{view_of}
 use Rattle.history.specs.Parts.{tells}
 use Rattle.state.proofs.Views.{tells_begin, tells_end}
-use borrow.Author.Rules.{rules}
 use Rattle.state.proofs.mention.gives.Goals as goal
 
 pub returns-then-part-eq8 : goal.returns-then-part-eq8

@@ -2,7 +2,6 @@
 use native.Mathlib.Omega.{arith}
 use Rattle.laws.proofs.Pieces.{piece_within}
 use Rattle.state.proofs.Views.{tells_property}
-use borrow.Author.Rules.{rules}
 use Rattle.state.proofs.mention.mentions.Goals as goal
 
 pub overflow_mul-n : goal.overflow_mul-n

@@ -2,7 +2,6 @@
 use borrow.Author.Tests.{ne_eqb, eq-eqb}
 use Rattle.slice.specs.Record.{view_of}
 use Rattle.history.specs.Counted.{counts}
-use borrow.Author.Rules.{rules}
 use Rattle.state.proofs.survey.is_counted.Goals as goal
 
 pub returns-then-byte-kind : goal.returns-then-byte-kind

@@ -4,7 +4,6 @@ use mathlib.Core.Path.{ap₂}
 use Rattle.slice.specs.Record.{view_of}
 use Rattle.slice.specs.declared.record.Period.{Period}
 use Rattle.slice.specs.declared.record.Key.{Key}
-use borrow.Author.Rules.{rules}
 use Rattle.state.proofs.survey.mark_of.Goals as goal
 
 pub returns : goal.returns
