@@ -1,6 +1,6 @@
 -- `state::answer::check_both` meets its contract: one check behind the other, and then the features. Assumes nothing.
 use mathlib.Core.Path.{◌≡◌, sym, ap, ◌∙◌}
-use mathlib.Core.Bool.{cond}
+use mathlib.Core.Bool.{cond, not}
 use native.Mathlib.Omega.{arith}
 use Rattle.slice.specs.Check.{refused}
 use Rattle.slice.specs.declared.check.Checked.TheVariants.{Sound}
@@ -14,25 +14,25 @@ use Rattle.state.proofs.answer.check_both.Statement.{statement}
 use Rattle.state.proofs.answer.check_both.Tie as tie
 
 first : (c : tie.In_default)
-    → check_table sides.Permanent c.before.before.before.before.before.args.permanent.now ≡ Sound
-first c = sym (checked_told _ _ c.before.before.check_table.ensures) ∙ c.enum_told-1.given.1
+    → check_table sides.Permanent c.args.permanent.now ≡ Sound
+first c = sym (checked_told _ _ c.check_table.ensures) ∙ c.in_default.is
 
 second : (c : tie.In_default-check_table)
-    → check_table sides.Temporary c.before.before.before.before.before.before.before.before.args.temporary.now ≡ Sound
-second c = sym (checked_told _ _ c.before.before.check_table-2.ensures) ∙ c.enum_told-in_default-check_table-1.given.1
+    → check_table sides.Temporary c.args.temporary.now ≡ Sound
+second c = sym (checked_told _ _ c.check_table-2.ensures) ∙ c.in_default-check_table.is
 
 returns-2 : tie.Need-returns-in-Refused-check_table
 returns-2 c =
-    both_second _ _ (first c.before.before.before.before) _
-    (sym (checked_told _ _ c.before.before.before.check_table-2.ensures) ∙ c.before.refusal-in-Refused-check_table-2-1.given.1)
+    both_second _ _ (first c.before.before) _
+    (sym (checked_told _ _ c.check_table-2.ensures) ∙ c.in-Refused-check_table.is)
 
 part-same-end : tie.Need-slice_bounds-same-end
 part-same-end c =
     omega (
       arith,
       (sound_table sides.Permanent
-          c.before.before.before.before.before.before.before.before.args.permanent.now
-          (first c.before.before.before)).headed,
+          c.args.permanent.now
+          (first c.before.before)).headed,
     )
 
 part-same-end-2 : tie.Need-slice_bounds-same-end-2
@@ -40,19 +40,19 @@ part-same-end-2 c =
     omega (
       arith,
       (sound_table sides.Temporary
-          c.before.before.before.before.before.before.before.before.before.args.temporary.now
+          c.args.temporary.now
           (second c.before)).headed,
     )
 
 returns-3 : tie.Need-returns-then-not-same
-returns-3 c = ap (λ b. cond b (refused 8) Sound) (sym c.if-not-same.true)
-    ∙ both_last _ _ (first c.before.before.before.before.before.before.before)
-    (second c.before.before.before.before) _ c.before.same.ensures
+returns-3 c = ap (λ b. cond (not b) (refused 8) Sound) (sym c.if-not-same.true)
+    ∙ both_last _ _ (first c.before.before.before.before.before.before)
+    (second c.before.before.before.before) _ c.same.ensures
 
 returns-4 : tie.Need-returns
-returns-4 c = ap (λ b. cond b (refused 8) Sound) (sym c.if-not-same.false)
-    ∙ both_last _ _ (first c.before.before.before.before.before.before.before)
-    (second c.before.before.before.before) _ c.before.same.ensures
+returns-4 c = ap (λ b. cond (not b) (refused 8) Sound) (sym c.if-not-same.false)
+    ∙ both_last _ _ (first c.before.before.before.before.before.before)
+    (second c.before.before.before.before) _ c.same.ensures
 
 pub check_both_spec : {M : Type 1} → statement M
 check_both_spec =
@@ -61,7 +61,7 @@ check_both_spec =
     (λ c κs. search rules)
     (λ c. search rules)
     (λ c. both_first _ _ _
-    (sym (checked_told _ _ c.before.check_table.ensures) ∙ c.before.refusal-1.given.1))
+    (sym (checked_told _ _ c.check_table.ensures) ∙ c.in-Refused.is))
     (λ c. search rules)
     (λ c κs. search rules)
     (λ c. search rules)

@@ -28,7 +28,7 @@ use Rattle.state.proofs.answer.permanent_state.Tie as tie
 -- the table is sound
 module _ (c : tie.In_default) where
   abbrev start : tie.Start
-  start = c.before.before.before.before.before
+  start = c.before.before.before.before
 
   abbrev table : List ℕ
   table = start.args.permanent.now
@@ -37,7 +37,7 @@ module _ (c : tie.In_default) where
   standing = permanent_at start.args.instant (slices_of table)
 
   checked : check_table sides.Permanent table ≡ Sound
-  checked = sym (checked_told _ _ c.before.before.check_table.ensures) ∙ c.enum_told-1.given.1
+  checked = sym (checked_told _ _ c.check_table.ensures) ∙ c.in_default.is
 
   walkable : Walkable table
   walkable = sound_walkable table sides.Permanent checked
@@ -45,14 +45,14 @@ module _ (c : tie.In_default) where
 -- 19 and 23 are past
 fits : (c : tie.Else-record-record_size)
     → let k = c.before.before.before.before in length (start k).args.«record».now ≡ record_size (stride_of (table k))
-fits c = c.if-record-record_size.false ∙ c.before.record_size.ensures
+fits c = c.if-record-record_size.false ∙ c.record_size.ensures
 
 asked : (c : tie.Else-record-record_size)
     → let k = c.before.before.before.before in
     outcome_of (standing k) ≡ permanent_state_of (table k) (start k).args.instant (start k).args.«record».now
 asked c =
     let k = c.before.before.before.before in
-    left_asked _ _ _ (standing k) (sym c.before.before.before.is_none.ensures ∙ c.before.before.if-is_none.false) (fits c)
+    left_asked _ _ _ (standing k) (sym c.is_none.ensures ∙ c.if-is_none.false) (fits c)
     ∙ state_left _ _ _ (checked k)
 
 -- what was found, and what that settles
@@ -71,14 +71,14 @@ Stood k = Settled (since_of (table (told k)) k.survey_permanent-found.result.bas
 stood : (c : tie.After-settle) → Stood c.before c.settle.result
 stood c = settles _ _ _ _ _ (surveyed c.before) _ c.settle.ensures
 
-begun : (c : tie.In-From-2) → let k = c.before.before.before in Stood k (From c.start-1.given.0.0)
-begun c = subst (Stood c.before.before.before) c.start-1.given.1 (stood c.before.before)
+begun : (c : tie.In-From) → let k = c.before.before in Stood k (From c.in-From.start)
+begun c = subst (Stood c.before.before) c.in-From.is (stood c.before)
 
 returns : tie.Need-returns-in-Refused
 returns c = (
   ap outcome_reply
       (state_refused _ _ _ _
-      (sym (checked_told _ _ c.before.check_table.ensures) ∙ c.before.refusal-1.given.1)),
+      (sym (checked_told _ _ c.check_table.ensures) ∙ c.in-Refused.is)),
   refl,
 )
 
@@ -86,7 +86,7 @@ returns-2 : tie.Need-returns-then-is_none
 returns-2 c =
     let k = c.before.before in (
       ap outcome_reply
-          (left_none _ _ _ (standing k) (sym c.before.is_none.ensures ∙ c.if-is_none.true) ∙ state_left _ _ _ (checked k)),
+          (left_none _ _ _ (standing k) (sym c.is_none.ensures ∙ c.if-is_none.true) ∙ state_left _ _ _ (checked k)),
       refl,
     )
 
@@ -94,18 +94,18 @@ returns-3 : tie.Need-returns-then-record-record_size
 returns-3 c =
     let k = c.before.before.before.before in (
       ap outcome_reply
-          (left_misfit _ _ _ (standing k) (sym c.before.before.before.is_none.ensures ∙ c.before.before.if-is_none.false)
-          (λ e. c.if-record-record_size.true (e ∙ sym c.before.record_size.ensures)) ∙ state_left _ _ _ (checked k)),
+          (left_misfit _ _ _ (standing k) (sym c.is_none.ensures ∙ c.if-is_none.false)
+          (λ e. c.if-record-record_size.true (e ∙ sym c.record_size.ensures)) ∙ state_left _ _ _ (checked k)),
       refl,
     )
 
 put-state-requires : tie.Need-put_state-requires
 put-state-requires c κs =
-    let v = c.before.before.before.before.before.before in
+    let v = c.before.before.before.before in
     let r = (walkable (told v)).whole in
     record {
       sized = fits v.before;
-      anchor = record { whole = r; below = (begun c.before.before.before).place };
+      anchor = record { whole = r; below = (begun c.before.before).place };
       whole = r;
       ten = (surveyed v).long;
       eight = refl;
@@ -115,18 +115,18 @@ put-state-requires c κs =
 
 returns-4 : tie.Need-returns-in-Refused-settle
 returns-4 c =
-    let v = c.before.before.before.before in
-    let stands = subst (Stood v) c.before.refusal-in-Refused-settle-1.given.1 (stood c.before.before.before) in
+    let v = c.before.before in
+    let stands = subst (Stood v) c.in-Refused-settle.is (stood c.before) in
     (ap outcome_reply (sym (ap outcome_of stands) ∙ asked v.before), refl)
 
 returns-5 : tie.Need-returns-in-From
 returns-5 c =
-    let v = c.before.before.before.before.before.before.before.before.before in
+    let v = c.before.before.before.before.before.before.before in
     let k = told v in
     let a = (start k).args in
-    let b = begun c.before.before.before.before.before.before in (
+    let b = begun c.before.before.before.before.before in (
       ap outcome_reply (sym (ap outcome_of b.state) ∙ asked v.before),
-      c.before.before.put_state.ensures
+      c.put_state.ensures
           ∙ (state_filled _ a.instant (table k) (walkable k).whole (walkable k).rising _ b
           v.survey_permanent-found.result.latest.marks (surveyed v).marks (table k) (replicate {A = ℕ} 8 0)
           (λ q h. get_or-replicate {A = ℕ} 8 q 0 0 h)

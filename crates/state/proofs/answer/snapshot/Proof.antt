@@ -12,7 +12,6 @@ use Rattle.table.specs.Rules.{check_table}
 use Rattle.table.specs.Steps.{Whole}
 use Rattle.table.specs.declared.check.Sides.TheVariants as sides
 use Rattle.table.proofs.Sound.{sound_table}
-use Rattle.history.specs.Anchor.{stands}
 use Rattle.history.specs.Permanent.{Standing, permanent_at}
 use Rattle.history.specs.Snapshot.{passing, overlaid, snapshot_at}
 use Rattle.state.specs.Asking.{slices_of, check_both, snapshot_of, outcome_of, outcome_reply, record_of}
@@ -31,7 +30,7 @@ use Rattle.state.proofs.answer.snapshot.Tie as tie
 -- both tables are sound
 module _ (c : tie.In_default) where
   abbrev start : tie.Start
-  start = c.before.before.before.before.before.before
+  start = c.before.before.before.before.before
 
   abbrev table : List ℕ
   table = start.args.permanent.now
@@ -43,7 +42,7 @@ module _ (c : tie.In_default) where
   standing = snapshot_at start.args.instant (slices_of table) (slices_of other)
 
   checked : check_both table other ≡ Sound
-  checked = sym c.before.before.check_both.ensures ∙ c.enum_told-1.given.1
+  checked = sym c.check_both.ensures ∙ c.in_default.is
 
   sound : (check_table sides.Permanent table ≡ Sound) × (check_table sides.Temporary other ≡ Sound)
   sound = both_sound table other checked
@@ -63,14 +62,14 @@ module _ (c : tie.In_default) where
 -- 19 and 23 are past
 fits : (c : tie.Else-record-record_size)
     → let k = c.before.before.before.before in length (start k).args.«record».now ≡ record_size (stride_of (table k))
-fits c = c.if-record-record_size.false ∙ c.before.record_size.ensures
+fits c = c.if-record-record_size.false ∙ c.record_size.ensures
 
 asked : (c : tie.Else-record-record_size)
     → let k = c.before.before.before.before in
     outcome_of (standing k) ≡ snapshot_of (table k) (other k) (start k).args.instant (start k).args.«record».now
 asked c =
     let k = c.before.before.before.before in
-    left_asked _ _ _ (standing k) (sym c.before.before.before.is_none.ensures ∙ c.before.before.if-is_none.false) (fits c)
+    left_asked _ _ _ (standing k) (sym c.is_none.ensures ∙ c.if-is_none.false) (fits c)
     ∙ snapshot_left _ _ _ _ (checked k)
 
 -- what was found, and what that settles
@@ -89,14 +88,14 @@ Stood k = Settled (since_of (table (told k)) k.survey_permanent-found.result.bas
 stood : (c : tie.After-settle) → Stood c.before c.settle.result
 stood c = settles _ _ _ _ _ (surveyed c.before) _ c.settle.ensures
 
-begun : (c : tie.In-From-2) → let k = c.before.before.before in Stood k (From c.start-1.given.0.0)
-begun c = subst (Stood c.before.before.before) c.start-1.given.1 (stood c.before.before)
+begun : (c : tie.In-From) → let k = c.before.before in Stood k (From c.in-From.start)
+begun c = subst (Stood c.before.before) c.in-From.is (stood c.before)
 
 returns-2 : tie.Need-returns-then-is_none
 returns-2 c =
     let k = c.before.before in (
       ap outcome_reply
-          (left_none _ _ _ (standing k) (sym c.before.is_none.ensures ∙ c.if-is_none.true) ∙ snapshot_left _ _ _ _ (checked k)),
+          (left_none _ _ _ (standing k) (sym c.is_none.ensures ∙ c.if-is_none.true) ∙ snapshot_left _ _ _ _ (checked k)),
       refl,
     )
 
@@ -104,41 +103,41 @@ returns-3 : tie.Need-returns-then-record-record_size
 returns-3 c =
     let k = c.before.before.before.before in (
       ap outcome_reply
-          (left_misfit _ _ _ (standing k) (sym c.before.before.before.is_none.ensures ∙ c.before.before.if-is_none.false)
-          (λ e. c.if-record-record_size.true (e ∙ sym c.before.record_size.ensures)) ∙ snapshot_left _ _ _ _ (checked k)),
+          (left_misfit _ _ _ (standing k) (sym c.is_none.ensures ∙ c.if-is_none.false)
+          (λ e. c.if-record-record_size.true (e ∙ sym c.record_size.ensures)) ∙ snapshot_left _ _ _ _ (checked k)),
       refl,
     )
 
 put-state-requires : tie.Need-put_state-requires
 put-state-requires c κs =
-    let v = c.before.before.before.before.before.before.before in
+    let v = c.before.before.before.before.before in
     let k = told v in
     record {
       sized = fits v.before;
-      anchor = record { whole = (walkable k).whole; below = (begun c.before.before.before.before).place };
+      anchor = record { whole = (walkable k).whole; below = (begun c.before.before.before).place };
       whole = whole2 k;
       ten = (surveyed v).long;
-      eight = c.before.overlay-passing.ensures.0;
+      eight = c.overlay-passing.ensures.0;
       below = λ q h. mark_known _ _ _ _ _ (surveyed v) q (omega arith) h;
-      above = λ q h. known_valid (start k).args.instant (other k) (whole2 k) q _ (c.before.overlay-passing.ensures.1 q h);
+      above = λ q h. known_valid (start k).args.instant (other k) (whole2 k) q _ (c.overlay-passing.ensures.1 q h);
     }
 
 returns-4 : tie.Need-returns-in-Refused-settle
 returns-4 c =
-    let v = c.before.before.before.before in
-    let stands = subst (Stood v) c.before.refusal-in-Refused-settle-1.given.1 (stood c.before.before.before) in
+    let v = c.before.before in
+    let stands = subst (Stood v) c.in-Refused-settle.is (stood c.before) in
     (ap outcome_reply (sym (ap outcome_of (laid (told v) _ stands)) ∙ asked v.before), refl)
 
 returns-5 : tie.Need-returns-in-From
 returns-5 c =
-    let v = c.before.before.before.before.before.before.before.before.before.before in
+    let v = c.before.before.before.before.before.before.before.before in
     let k = told v in
     let a = (start k).args in
-    let b = begun c.before.before.before.before.before.before.before in
-    let o = c.before.before.before.before.overlay-passing in
+    let b = begun c.before.before.before.before.before.before in
+    let o = c.overlay-passing in
     let e = laid k _ b.state in (
       ap outcome_reply (sym (ap outcome_of e) ∙ asked v.before),
-      c.before.before.put_state.ensures
+      c.put_state.ensures
           ∙ (snapshot_filled _ a.instant (table k) (walkable k).whole (walkable k).rising _ b
           v.survey_permanent-found.result.latest.marks (surveyed v).marks (other k) o.result (sound k).1 o.ensures.1
           ∙ sym (ap (λ (s : Standing). record_of (stride_of (table k)) a.instant s a.«record».now) e)),
@@ -152,7 +151,7 @@ snapshot_spec =
     (λ c. search rules)
     (λ c. (
       ap outcome_reply
-          (snapshot_refused _ _ _ _ _ (sym c.before.before.before.check_both.ensures ∙ c.before.refusal-1.given.1)),
+          (snapshot_refused _ _ _ _ _ (sym c.check_both.ensures ∙ c.in-Refused.is)),
       refl,
     ))
     (λ c. search rules)
@@ -164,7 +163,7 @@ snapshot_spec =
     (λ c κs. settle_asks _ _ _ _ _ (surveyed c))
     (λ c. search rules)
     (λ c. search rules)
-    (λ c κs. whole2 c.before.before.before.before.before.before.before.before.before.before)
+    (λ c κs. whole2 c.before.before.before.before.before.before.before.before)
     put-state-requires
     returns-4
     (λ c. search rules)

@@ -16,7 +16,6 @@ use Rattle.table.specs.Steps.{Whole}
 use Rattle.table.specs.declared.check.Sides.TheVariants as sides
 use Rattle.table.proofs.Records.{room_most}
 use Rattle.table.proofs.Sound.{sound_table}
-use Rattle.history.specs.Anchor.{stands}
 use Rattle.history.specs.Permanent.{Standing, permanent_at}
 use Rattle.state.specs.Asking.{slices_of, check_both, place_at, place_of, place_reply}
 use Rattle.state.specs.Steps.{Walkable, since_of}
@@ -35,7 +34,7 @@ use Rattle.state.proofs.question.locate.Tie as tie
 -- both tables are sound
 module _ (c : tie.In_default) where
   abbrev start : tie.Start
-  start = c.before.before.before.before.before
+  start = c.before.before.before.before
 
   abbrev table : List ℕ
   table = start.args.permanent.now
@@ -48,7 +47,7 @@ module _ (c : tie.In_default) where
   answer = place_at table other start.args.instant start.args.property
 
   checked : check_both table other ≡ Sound
-  checked = sym c.before.before.check_both.ensures ∙ c.enum_told-1.given.1
+  checked = sym c.check_both.ensures ∙ c.in_default.is
 
   sound : (check_table sides.Permanent table ≡ Sound) × (check_table sides.Temporary other ≡ Sound)
   sound = both_sound table other checked
@@ -72,7 +71,7 @@ asked c = place_left _ _ _ _ (checked c.before.before) (sym (test c.before) ∙ 
 
 small : (c : tie.Else-is_none-property) → (start c.before.before).args.property < 8
 small c = let e : ltb 7 (start c.before.before).args.property ≡ false =
-    (or_neither c.before.is_none.result _ c.if-is_none-property.false).1 in omega tests
+    (or_neither c.is_none.result _ c.if-is_none-property.false).1 in omega tests
 
 -- what was found, and what that settles
 abbrev told : tie.After-survey_permanent-found → tie.In_default
@@ -91,19 +90,19 @@ Stood k = Settled (since_of (table (told k)) k.survey_permanent-found.result.bas
 stood : (c : tie.After-settle) → Stood c.before c.settle.result
 stood c = settles _ _ _ _ _ (surveyed c.before) _ c.settle.ensures
 
-begun : (c : tie.In-From-2) → let k = c.before.before.before in Stood k (From c.start-1.given.0.0)
-begun c = subst (Stood c.before.before.before) c.start-1.given.1 (stood c.before.before)
+begun : (c : tie.In-From) → let k = c.before.before in Stood k (From c.in-From.start)
+begun c = subst (Stood c.before.before) c.in-From.is (stood c.before)
 
 placed-requires : tie.Need-placed-requires
 placed-requires c κs =
-    let v = c.before.before.before.before.before.before.before in
+    let v = c.before.before.before.before.before in
     let k = told v in
     let n = (start k).args.property in
     let over =
-    known_valid (start k).args.instant (other k) (whole2 k) n _ (c.before.overlay-passing.ensures.1 n (small v.before)) in (
+    known_valid (start k).args.instant (other k) (whole2 k) n _ (c.overlay-passing.ensures.1 n (small v.before)) in (
       small v.before,
       (
-        record { whole = (walkable k).whole; below = (begun c.before.before.before.before).place },
+        record { whole = (walkable k).whole; below = (begun c.before.before.before).place },
         (
           mark_known _ _ _ _ _ (surveyed v) n (omega arith) (omega arith),
           omega (arith, over, whole2 k, room_most (record_size (stride_of (other k))) (other k)),
@@ -113,22 +112,22 @@ placed-requires c κs =
 
 returns-3 : tie.Need-returns-in-Refused-settle
 returns-3 c =
-    let v = c.before.before.before.before in
-    let stands = subst (Stood v) c.before.refusal-in-Refused-settle-1.given.1 (stood c.before.before.before) in
+    let v = c.before.before in
+    let stands = subst (Stood v) c.in-Refused-settle.is (stood c.before) in
     ap place_reply (sym (ap (answer (told v)) stands) ∙ asked v.before)
 
 returns-4 : tie.Need-returns-in-From
 returns-4 c =
-    let v = c.before.before.before.before.before.before.before.before in
+    let v = c.before.before.before.before.before.before in
     let k = told v in
     let n = (start k).args.property in
     ap place_reply
     (c.placed.ensures
     ∙ (placed_is _ (start k).args.instant (table k) (other k) (walkable k).whole (walkable k).rising (whole2 k)
-    (sound_rising (other k) sides.Temporary (sound k).1) _ (begun c.before.before.before.before.before) n
+    (sound_rising (other k) sides.Temporary (sound k).1) _ (begun c.before.before.before.before) n
     (small v.before)
     _ (mark_due_lem _ _ _ _ _ (surveyed v) n (omega arith) (omega arith)) _
-    (c.before.before.overlay-passing.ensures.1 n (small v.before))
+    (c.overlay-passing.ensures.1 n (small v.before))
     ∙ asked v.before))
 
 pub locate_spec : {M : Type 1} → statement M
@@ -138,7 +137,7 @@ locate_spec =
     (λ c κs. search rules)
     (λ c. search rules)
     (λ c. ap place_reply
-    (place_refused _ _ _ _ _ (sym c.before.before.before.check_both.ensures ∙ c.before.refusal-1.given.1)))
+    (place_refused _ _ _ _ _ (sym c.check_both.ensures ∙ c.in-Refused.is)))
     (λ c. search rules)
     (λ c κs. search rules)
     (λ c. ap place_reply (place_none _ _ _ _ (checked c.before.before) (sym (test c.before) ∙ c.if-is_none-property.true)))
@@ -147,11 +146,11 @@ locate_spec =
     (λ c κs. settle_asks _ _ _ _ _ (surveyed c))
     (λ c. search rules)
     (λ c. search rules)
-    (λ c κs. whole2 c.before.before.before.before.before.before.before.before)
-    (λ c. omega (arith, small c.before.before.before.before.before.before.before))
-    (λ c. omega (arith, small c.before.before.before.before.before.before.before))
-    (λ c. omega (arith, small c.before.before.before.before.before.before.before.before))
-    (λ c. omega (arith, small c.before.before.before.before.before.before.before.before))
+    (λ c κs. whole2 c.before.before.before.before.before.before)
+    (λ c. omega (arith, small c.before.before.before.before.before))
+    (λ c. omega (arith, small c.before.before.before.before.before))
+    (λ c. omega (arith, small c.before.before.before.before.before.before))
+    (λ c. omega (arith, small c.before.before.before.before.before.before))
     placed-requires
     returns-3
     returns-4)

@@ -21,52 +21,52 @@ made : (x : Bor (List ℕ)) (at s n : ℕ) → s ≡ n
 made x at s n e = let z : at + s - at ≡ n = omega arith in rw z
 
 within : (c : tie.After-stride_of)
-    → c.at-1.given.0.0 + stride_of
-    c.before.before.before.before.before.before.before.args.permanent.now ≤ length
-    c.before.before.before.before.before.before.before.args.permanent.now
+    → c.in-Permanent.at + stride_of
+    c.args.permanent.now ≤ length
+    c.args.permanent.now
 within c =
-    permanent_within _ c.before.before.before.before.before.before.before.args.temporary.now
-    c.before.before.before.before.before.before.before.args.instant
-    c.before.before.before.before.before.before.before.args.property _
-    (sym (place_told _ _ c.before.before.before.before.locate.ensures) ∙ c.before.before.at-1.given.1)
+    permanent_within _ c.args.temporary.now
+    c.args.instant
+    c.args.property _
+    (sym (place_told _ _ c.locate.ensures) ∙ c.in-Permanent.is)
 
 within2 : (c : tie.After-stride_of-in-Temporary)
-    → c.at-in-Temporary-1.given.0.0 + stride_of
-    c.before.before.before.before.before.before.before.args.temporary.now ≤ length
-    c.before.before.before.before.before.before.before.args.temporary.now
+    → c.in-Temporary.at + stride_of
+    c.args.temporary.now ≤ length
+    c.args.temporary.now
 within2 c =
-    temporary_within c.before.before.before.before.before.before.before.args.permanent.now _
-    c.before.before.before.before.before.before.before.args.instant
-    c.before.before.before.before.before.before.before.args.property _
-    (sym (place_told _ _ c.before.before.before.before.locate.ensures) ∙ c.before.before.at-in-Temporary-1.given.1)
+    temporary_within c.args.permanent.now _
+    c.args.instant
+    c.args.property _
+    (sym (place_told _ _ c.locate.ensures) ∙ c.in-Temporary.is)
 
 returns : tie.Need-returns-in-Permanent
 returns c =
-    let a = c.before.before.before.before.before.before.before.before.args in
-    made a.permanent c.before.before.before.at-1.given.0.0 c.before.stride_of.result (stride_of a.permanent.now)
-    c.before.stride_of.ensures
+    let a = c.args in
+    made a.permanent c.in-Permanent.at c.stride_of.result (stride_of a.permanent.now)
+    c.stride_of.ensures
     ∙ ap (λ (z : Place). handed z a.permanent a.temporary)
-    (sym c.before.before.before.at-1.given.1 ∙ place_told _ _ c.before.before.before.before.before.locate.ensures)
+    (sym c.in-Permanent.is ∙ place_told _ _ c.locate.ensures)
 
 returns-2 : tie.Need-returns-in-Temporary
 returns-2 c =
-    let a = c.before.before.before.before.before.before.before.before.args in
-    made a.temporary c.before.before.before.at-in-Temporary-1.given.0.0 c.before.stride_of-in-Temporary.result (stride_of a.temporary.now)
-    c.before.stride_of-in-Temporary.ensures
+    let a = c.args in
+    made a.temporary c.in-Temporary.at c.stride_of-in-Temporary.result (stride_of a.temporary.now)
+    c.stride_of-in-Temporary.ensures
     ∙ ap (λ (z : Place). handed z a.permanent a.temporary)
-    (sym c.before.before.before.at-in-Temporary-1.given.1 ∙ place_told _ _ c.before.before.before.before.before.locate.ensures)
+    (sym c.in-Temporary.is ∙ place_told _ _ c.locate.ensures)
 
 returns-3 : tie.Need-returns-in-Unmentioned
 returns-3 c =
-    let a = c.before.before.before.before.before.before.args in
+    let a = c.args in
     ap (λ (z : Place). handed z a.permanent a.temporary)
-    (sym c.before.enum_told-1.given.1 ∙ place_told _ _ c.before.before.before.locate.ensures)
+    (sym c.in-Unmentioned.is ∙ place_told _ _ c.locate.ensures)
 
 returns-4 : tie.Need-returns-in-Refused
 returns-4 c =
-    let a = c.before.before.before.before.before.before.args in
+    let a = c.args in
     ap (λ (z : Place). handed z a.permanent a.temporary)
-    (sym c.before.enum_told-in-Refused-1.given.1 ∙ place_told _ _ c.before.before.before.locate.ensures)
+    (sym c.in-Refused.is ∙ place_told _ _ c.locate.ensures)
 
 pub property_spec : {M : Type 1} → statement M
 property_spec =

@@ -19,10 +19,10 @@ use Rattle.state.proofs.touching.touched.Tie as tie
 -- the table is sound
 module _ (c : tie.In_default) where
   abbrev start : tie.Start
-  start = c.before.before.before.before
+  start = c.before.before.before
 
   sound : check_table Temporary start.args.temporary.now ≡ Sound
-  sound = sym (checked_told _ _ c.before.before.check_table.ensures) ∙ c.enum_told-1.given.1
+  sound = sym (checked_told _ _ c.check_table.ensures) ∙ c.in_default.is
 
 -- 19, as the code tests it
 test : (c : tie.After-is_none) → let a = (start c.before).args in
@@ -32,18 +32,18 @@ test c = ap (λ b. b || ltb 7 (start c.before).args.property) c.is_none.ensures
 small : (c : tie.Else-is_none-property) → (start c.before.before).args.property < 8
 small c =
     let e : ltb 7 (start c.before.before).args.property ≡ false =
-    (or_neither c.before.is_none.result _ c.if-is_none-property.false).1 in
+    (or_neither c.is_none.result _ c.if-is_none-property.false).1 in
     omega tests
 
 returns : tie.Need-returns-in-Refused
 returns c =
-    let checked = checked_told _ _ c.before.check_table.ensures in
-    ap touched_reply (touched_refused _ _ _ _ (sym checked ∙ c.before.refusal-1.given.1))
+    let checked = checked_told _ _ c.check_table.ensures in
+    ap touched_reply (touched_refused _ _ _ _ (sym checked ∙ c.in-Refused.is))
 
 returns-3 : tie.Need-returns
 returns-3 c =
     let k = c.before.before in
-    ap touched_reply (c.look_down.ensures ∙ touched_left _ _ _ (sound k.before) (sym (test k) ∙ c.before.if-is_none-property.false))
+    ap touched_reply (c.look_down.ensures ∙ touched_left _ _ _ (sound k.before) (sym (test k) ∙ c.if-is_none-property.false))
 
 pub touched_spec : {M : Type 1} → statement M
 touched_spec =

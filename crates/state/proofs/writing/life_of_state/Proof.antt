@@ -15,41 +15,41 @@ use Rattle.state.proofs.writing.life_of_state.Statement.{statement}
 use Rattle.state.proofs.writing.life_of_state.Tie as tie
 
 abbrev table : tie.After-record_at-anchor → List ℕ
-table k = k.before.before.before.before.args.permanent.now
+table k = k.args.permanent.now
 
 abbrev anchor : tie.After-record_at-anchor → List ℕ
-anchor k = record_at (record_size (stride_of (table k))) k.before.before.before.before.args.start.place (table k)
+anchor k = record_at (record_size (stride_of (table k))) k.args.start.place (table k)
 
 read : (k : tie.After-record_at-anchor)
-    → Read (table k) k.before.before.before.before.args.start.place k.before.before.stride_of-stride.result
+    → Read (table k) k.args.start.place k.stride_of-stride.result
     k.record_at-anchor.result.now
 read k =
     let s = k.before.before.before.before in
-    read_here (table k) s.args.start.place k.before.record_size-size.ensures k.record_at-anchor.ensures.0
-    k.before.before.stride_of-stride.ensures s.requires.1.whole s.requires.1.below
+    read_here (table k) s.args.start.place k.record_size-size.ensures k.record_at-anchor.ensures.0
+    k.stride_of-stride.ensures s.requires.1.whole s.requires.1.below
 
 -- a life time as it was found, part by part
-told : (k : tie.After-record_at-anchor) (q : ℕ) (l : Life) (o : ℕ) → l ≡ life_at k.before.record_size-size.result (table k) o
-    → o ≡ origin_of k.before.before.before.before.args.start
-    (tells q (view_of k.before.before.stride_of-stride.result k.record_at-anchor.result.now))
-    (get_or k.before.before.before.before.args.t3.marks q nothing)
+told : (k : tie.After-record_at-anchor) (q : ℕ) (l : Life) (o : ℕ) → l ≡ life_at k.record_size-size.result (table k) o
+    → o ≡ origin_of k.args.start
+    (tells q (view_of k.stride_of-stride.result k.record_at-anchor.result.now))
+    (get_or k.args.mentions.marks q nothing)
     → l ≡ life_at (record_size (stride_of (table k))) (table k)
-    (origin_of k.before.before.before.before.args.start (tells q (view_of (stride_of (table k)) (anchor k)))
-    (get_or k.before.before.before.before.args.t3.marks q nothing))
+    (origin_of k.args.start (tells q (view_of (stride_of (table k)) (anchor k)))
+    (get_or k.args.mentions.marks q nothing))
 told k q l o e f =
-    e ∙ (ap (λ (n : ℕ). life_at n (table k) o) k.before.record_size-size.ensures
+    e ∙ (ap (λ (n : ℕ). life_at n (table k) o) k.record_size-size.ensures
     ∙ ap (life_at (record_size (stride_of (table k))) (table k))
-    (f ∙ ap (λ (v : Slice). origin_of k.before.before.before.before.args.start (tells q v)
-    (get_or k.before.before.before.before.args.t3.marks q nothing)) (read k).seen))
+    (f ∙ ap (λ (v : Slice). origin_of k.args.start (tells q v)
+    (get_or k.args.mentions.marks q nothing)) (read k).seen))
 
 returns : tie.Need-returns
 returns c =
     let k = c.before.before.before.before.before.before.before.before in
     ap₂ (λ (b e : Life). record { begin = b.begin; end = e.end })
-    (told k 8 c.before.before.before.before.life_at-born.result c.before.before.before.before.before.origin.result
-    c.before.before.before.before.life_at-born.ensures c.before.before.before.before.before.origin.ensures)
-    (told k 9 c.before.before.life_at-gone.result c.before.before.before.origin-2.result
-    c.before.before.life_at-gone.ensures c.before.before.before.origin-2.ensures)
+    (told k 8 c.life_at-born.result c.origin.result
+    c.life_at-born.ensures c.origin.ensures)
+    (told k 9 c.life_at-gone.result c.origin-2.result
+    c.life_at-gone.ensures c.origin-2.ensures)
 
 pub life_of_state_spec : {M : Type 1} → statement M
 life_of_state_spec =

@@ -2,7 +2,6 @@
 use mathlib.Core.Path.{refl}
 use native.Mathlib.Omega.{arith}
 use Rattle.state.proofs.Pasting.{pasted_on}
-use borrow.Author.Rules.{rules}
 use Rattle.state.proofs.writing.put_head.Goals as goal
 
 pub returns : goal.returns

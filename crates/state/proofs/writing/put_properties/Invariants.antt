@@ -1,15 +1,8 @@
-use Prim.Native.Nat.{ℕ, ◌+◌, ◌-◌, ◌*◌, ◌≤◌}
-use mathlib.Core.Path.{◌≡◌, refl, ap, ◌∙◌}
-use mathlib.Core.List.{List}
-use native.Mathlib.Omega.{arith}
-use lib.ListN.{length, get_or}
-use Rattle.laws.proofs.Pieces.{piece_within}
+use Prim.Native.Nat.{◌-◌, ◌≤◌}
+use mathlib.Core.Path.{◌≡◌}
+use lib.ListN.{length}
 use Rattle.octets.specs.Writing.{pasted}
-use Rattle.octets.proofs.Writing.{pasted_length}
-use Rattle.table.specs.Header.{stride_of}
-use Rattle.state.specs.Steps.{nothing, property_by, property_from, run_of}
-use Rattle.state.proofs.Pasting.{run_pasted, run_length, pasted_none, from_length}
-use borrow.Author.Rules.{rules}
+use Rattle.state.specs.Steps.{property_from, run_of}
 use Rattle.state.proofs.writing.put_properties.Given as goal
 
 abbrev pub invariant-loop-n : goal.invariant-loop-n

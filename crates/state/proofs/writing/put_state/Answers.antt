@@ -10,7 +10,6 @@ use Rattle.table.specs.Header.{stride_of}
 use Rattle.state.specs.Written.{state_kind, state_times}
 use Rattle.state.specs.Steps.{property_from, run_of}
 use Rattle.state.proofs.Pasting.{run_length, from_length, whole_pasted}
-use borrow.Author.Rules.{rules}
 use Rattle.state.proofs.writing.put_state.Goals as goal
 
 pub returns : goal.returns

@@ -4,7 +4,6 @@ use native.Mathlib.Omega.{arith}
 use Rattle.octets.specs.Writing.{bytes_of, pasted}
 use Rattle.numbers.specs.declared.Instant.{Instant}
 use Rattle.state.proofs.Pasting.{pasted_on}
-use borrow.Author.Rules.{rules}
 use Rattle.state.proofs.writing.put_times.Goals as goal
 
 pub returns : goal.returns

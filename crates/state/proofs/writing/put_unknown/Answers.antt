@@ -6,7 +6,6 @@ use native.Mathlib.Omega.{arith}
 use lib.ListN.{take, replicate}
 use Rattle.octets.specs.Writing.{pasted}
 use Rattle.state.proofs.Pasting.{unknown_cut}
-use borrow.Author.Rules.{rules}
 use Rattle.state.proofs.writing.put_unknown.Goals as goal
 
 pub returns : goal.returns
