@@ -2,8 +2,7 @@
 # make wrong    tries the further wrong programs, those under crates/*/wrong (long: each costs a check of its crate)
 # make sample   proves and builds the program `vectors`, and asks it about samples/feed, samples/states and samples/slices
 # make list     proves and builds the program `listing`, and prints the listing of FILE, samples/runway.tsl if not said
-# make lib      proves the C interface and writes target/staticlib/libtimeslices.a, for x86-64, and on another processor
-#               target/native/libtimeslices.a too, for that one
+# make lib      proves the C interface and writes target/staticlib/libtimeslices.a, for x86-64 Linux
 # make night    the examples: the night of the cancelled runway change, in C and in Rust, and the edges of the C interface
 # make compare  plays random calls to the library and to the second program, FOR=60s if not said
 # make fuzz     the same comparison, guided by coverage, FOR=60s if not said
@@ -53,4 +52,4 @@ bench: second-linked
 	@second/target/linked/release/second bench
 
 fmt:
-	@rt fmt
+	@for crate in crates/*/; do (cd "$$crate" && rt fmt) || exit 1; done

@@ -4,7 +4,7 @@
  * specification says of it.
  *
  *     make lib
- *     cc -std=c11 -Iinclude examples/edges.c target/staticlib/libtimeslices.a -o edges     (target/native on another processor)
+ *     cc -std=c11 -Iinclude examples/edges.c target/staticlib/libtimeslices.a -o edges
  */
 #include <stdio.h>
 #include <string.h>

@@ -5,8 +5,6 @@
  *
  *     make lib
  *     cc -std=c11 -Iinclude examples/night.c target/staticlib/libtimeslices.a -o night
- *
- * On a processor other than x86-64 the archive is target/native/libtimeslices.a.
  */
 #include <stdio.h>
 #include <string.h>

@@ -29,17 +29,12 @@ fn main() {
     }
 }
 
-/// Returns the folder of the archive: the one that is named, or that of `make lib` for the
-/// processor.
+/// Returns the folder of the archive: the one that is named, or that of `make lib`.
 fn folder() -> PathBuf {
     let variable = |name| std::env::var_os(name).filter(|value| !value.is_empty());
     if let Some(folder) = variable(FOLDER) {
         return folder.into();
     }
     let here = variable("CARGO_MANIFEST_DIR").expect("cargo names the folder of the manifest");
-    let target = Path::new(&here).join("../target");
-    match std::env::var("CARGO_CFG_TARGET_ARCH").as_deref() {
-        Ok("x86_64") => target.join("staticlib"),
-        _ => target.join("native"),
-    }
+    Path::new(&here).join("../target/staticlib")
 }

@@ -33,9 +33,5 @@ fn folder() -> PathBuf {
     if let Some(named) = env::var_os(FOLDER) {
         return here.join(named);
     }
-    let built = match env::var("CARGO_CFG_TARGET_ARCH").as_deref() {
-        Ok("x86_64") => "staticlib",
-        _ => "native",
-    };
-    here.join("../../target").join(built)
+    here.join("../../target/staticlib")
 }

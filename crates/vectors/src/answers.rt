@@ -13,7 +13,7 @@ pub fn put(out: &mut [u8], at: usize, text: &[u8]) -> usize {
     if out.len() - at < text.len() {
         return at;
     }
-    bytes::copy(text, &mut out[at..]);
+    out[at..at + text.len()].copy_from_slice(text);
     at + text.len()
 }
 

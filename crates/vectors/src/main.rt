@@ -1,5 +1,6 @@
 // Reads commands from standard input, puts what they ask to the library, and writes its answers to
-// standard output, a line each. A command is a line: a letter, and pairs of hexadecimal digits.
+// standard output, a line each. A command is a line: a letter, and pairs of hexadecimal digits. Where a read
+// or a write fails, the program ends with that error.
 //
 //   b BYTES           the buffer becomes these bytes, at most 512
 //   f BYTES           the feature becomes these bytes, at most 64
@@ -36,15 +37,15 @@ mod lent;
 mod line;
 mod making;
 
-ghost use Rattle.std.specs.Prelude.{◌≡◌, ◌≤◌, length};
+ghost use Rattle.std.specs.Prelude.{◌≡◌, ◌≤◌, length, IfOk};
 
 use crate::answers::{put_arrival, put_changes, put_checked, put_creation, put_decoded, put_eight};
 use crate::asking::ask_instant;
 use crate::lent::{end_of, fill, front, keep, lay, part, patch, shift, within, write};
 use crate::line::{command, double, pair, quadruple, triple};
 use crate::making::ask_output;
-use libc::{STDIN_FILENO, STDOUT_FILENO};
 use numbers::Instant;
+use std::io::{Read, Result, Write};
 use table::Sides;
 
 // Where the table before the last question about it is kept, behind the two tables.
@@ -53,7 +54,7 @@ const BEFORE: usize = 131072;
 // How many bytes are in use: of the buffer, of the feature, of the table and of the other one, of the
 // table before the last question about it, of the record, of the output, and of the answers; where the
 // table and the other one begin; and the instant.
-#[derive(Drop)]
+#[derive(Clone, Copy)]
 struct Used {
     buffer: usize,
     feature: usize,
@@ -332,6 +333,17 @@ fn obey(
     obey_buffer(letter, line, buffer, feature, out, next)
 }
 
+// Where the line of the input that begins at `at` ends: at the next line feed, or where the input does.
+fn line_end(input: &[u8], at: usize) -> usize
+    requires { at ≤ length input.now }
+    ensures { (at ≤ result) × (result ≤ length input.now) }
+{
+    match input[at..].iter().position(|c| *c == b'\n') {
+        Some(n) => at + n,
+        None => input.len(),
+    }
+}
+
 // Obeys each line of the input, and answers how many bytes of answers there are.
 fn run(
     input: &[u8],
@@ -347,7 +359,7 @@ fn run(
     let mut used = unused();
     let mut at = 0;
     while at < input.len() {
-        let end = bytes::scan::find(input, at, input.len(), b'\n');
+        let end = line_end(input, at);
         let next = end + 1;
         used = obey(
             &input[at..end],
@@ -378,10 +390,25 @@ fn answer_room() -> [u8; 3145728]
     [0; 3145728]
 }
 
+// Reads until buf is full or the input ends, and answers how many bytes it put at the start of buf.
+fn read_full<R: Read>(reader: &mut R, buf: &mut [u8]) -> Result<usize>
+    ensures { IfOk result (λ n. n ≤ length buf.new) }
+{
+    let mut done = 0;
+    while done < buf.len() {
+        let n = reader.read(&mut buf[done..])?;
+        if n == 0 {
+            break;
+        }
+        done += n;
+    }
+    Ok(done)
+}
+
 // Obeys the commands of standard input, and writes the answers.
-fn main() {
+fn main(rt: HostRuntime) -> Result<()> {
     let mut input = room();
-    let got = io::read_full(STDIN_FILENO, &mut input);
+    let got = read_full(&mut rt.stdin(), &mut input)?;
     let mut buffer = [0u8; 512];
     let mut feature = [0u8; 64];
     let mut tables = [0u8; 196608];
@@ -397,5 +424,5 @@ fn main() {
         &mut output,
         &mut out,
     );
-    io::write_all(STDOUT_FILENO, &out[0..n]);
+    Write::write_all(&mut rt.stdout(), &out[0..n])
 }
