@@ -21,29 +21,29 @@ on d o s r to at i m h k e f =
     pasted_on d (take i (drop at o)) (take m (drop (at + i) o)) to (to + i) e f (omega (arith, a)) (omega (arith, b))
     ∙ ap (pasted d to) (sym (take-add i m (drop at o) ∙ ap (λ (l : List ℕ). take i (drop at o) ++ take m l) (drop-drop i at o)))
 
-abbrev invariant-loop : tie.invariant-loop
+abbrev invariant-loop : tie.invariant-loop-i
 invariant-loop line₀ to other at n i₀ line i =
     (i ≤ n) × ((length line ≡ length line₀) × (line ≡ pasted line₀ to (take i (drop at other))))
 
-abbrev decreases-loop : tie.decreases-loop
+abbrev decreases-loop : tie.decreases-loop-i
 decreases-loop line₀ to other at n i₀ line i = n - i
 
-abbrev start : tie.At-loop invariant-loop decreases-loop → tie.Start invariant-loop decreases-loop
+abbrev start : tie.At-loop-i invariant-loop decreases-loop → tie.Start invariant-loop decreases-loop
 start l = l.before.before.before
 
-loop-again : tie.Need-loop-preserved invariant-loop decreases-loop
+loop-again : tie.Need-loop-i-preserved invariant-loop decreases-loop
 loop-again c =
     let y = c.before.before in
     let k = y.before.before in
     let l = k.before in
     let s = start l in
     let a = s.args in
-    let more : l.loop.i + 8 ≤ a.n = omega arith in (
+    let more : l.loop-i.i + 8 ≤ a.n = omega arith in (
       more,
       (
-        y.copy8.auto.0 ∙ l.loop.invariant.1.0,
-        on a.line.now a.other.now l.loop.line _ a.to a.at l.loop.i 8 (omega (arith, s.pre.0, more))
-            (omega (arith, s.pre.1, more)) l.loop.invariant.1.1 y.copy8.ensures,
+        y.copy8.auto.0 ∙ l.loop-i.invariant.1.0,
+        on a.line.now a.other.now l.loop-i.line _ a.to a.at l.loop-i.i 8 (omega (arith, s.requires.0, more))
+            (omega (arith, s.requires.1, more)) l.loop-i.invariant.1.1 y.copy8.ensures,
       ),
     )
 
@@ -53,11 +53,11 @@ returns c =
     let l = p.before.before.before.before in
     let s = start l in
     let a = s.args in
-    let i = l.loop.i in
+    let i = l.loop-i.i in
     let m = a.at + a.n - (a.at + i) in
     let e : i + m ≡ a.n = omega arith in
-    on a.line.now a.other.now l.loop.line _ a.to a.at i m (omega (arith, e, s.pre.0))
-    (omega (arith, e, s.pre.1)) l.loop.invariant.1.1 p.put.ensures
+    on a.line.now a.other.now l.loop-i.line _ a.to a.at i m (omega (arith, e, s.requires.0))
+    (omega (arith, e, s.requires.1)) l.loop-i.invariant.1.1 p.put.ensures
     ∙ ap (λ (k : ℕ). pasted a.line.now a.to (take k (drop a.at a.other.now))) e
 
 pub copy_spec : {M : Type 1} → statement M
@@ -81,5 +81,5 @@ copy_spec =
     (λ c. omega arith)
     (λ c. omega arith)
     (λ c κs. search rules)
-    (λ c. c.before.before.put.auto.0 ∙ c.before.before.before.before.before.before.loop.invariant.1.0)
+    (λ c. c.before.before.put.auto.0 ∙ c.before.before.before.before.before.before.loop-i.invariant.1.0)
     returns)

@@ -16,25 +16,25 @@ use Rattle.octets.proofs.Writing.{take_pasted}
 use Rattle.baselines.proofs.line.put_unknown.Statement.{statement}
 use Rattle.baselines.proofs.line.put_unknown.Tie as tie
 
-abbrev invariant-loop : tie.invariant-loop
+abbrev invariant-loop : tie.invariant-loop-n
 invariant-loop line₀ stride n₀ t5 line n = (n ≤ 8) × ((length line ≡ length line₀) × (record_of stride line ≡ unknown_to stride n))
 
-abbrev decreases-loop : tie.decreases-loop
+abbrev decreases-loop : tie.decreases-loop-n
 decreases-loop line₀ stride n₀ t5 line n = 8 - n
 
 abbrev start : tie.After-put invariant-loop decreases-loop → tie.Start invariant-loop decreases-loop
 start p = p.before.before.before.before
 
 long : (p : tie.After-put invariant-loop decreases-loop) → let s = start p in length s.args.line.now ≡ line_size s.args.stride
-long p = let s = start p in ap length s.pre.0 ∙ length-replicate (line_size s.args.stride) 0
+long p = let s = start p in ap length s.requires.0 ∙ length-replicate (line_size s.args.stride) 0
 
-loop-holds : tie.Need-loop-init invariant-loop decreases-loop
+loop-holds : tie.Need-loop-n-init invariant-loop decreases-loop
 loop-holds c =
     let p = c.before.before in
     let s = start p in
     let n = s.args.stride in
     let zeros : record_of n s.args.line.now ≡ replicate (record_size n) 0 =
-    ap (record_of n) (s.pre.0 ∙ sym (replicate-append-replicate (record_size n) n 0))
+    ap (record_of n) (s.requires.0 ∙ sym (replicate-append-replicate (record_size n) n 0))
     ∙ take_at (replicate (record_size n) 0) (replicate n 0) (record_size n) (length-replicate (record_size n) 0) in (
       omega arith,
       (
@@ -42,13 +42,13 @@ loop-holds c =
         ap (record_of n) p.put.ensures
             ∙ take_pasted (record_size n) s.args.line.now (replicate 8 255) 16 (omega arith) (omega (arith, long p))
             ∙ ap (λ (l : List ℕ). pasted l 16 (replicate 8 255)) zeros
-            ∙ unknown_none n s.pre.1,
+            ∙ unknown_none n s.requires.1,
       ),
     )
 
 -- property n lies within the record
-module _ (k : tie.In-loop invariant-loop decreases-loop) where
-  abbrev l : tie.At-loop invariant-loop decreases-loop
+module _ (k : tie.In-loop-n invariant-loop decreases-loop) where
+  abbrev l : tie.At-loop-n invariant-loop decreases-loop
   l = k.before
 
   abbrev putting : tie.After-put invariant-loop decreases-loop
@@ -57,27 +57,27 @@ module _ (k : tie.In-loop invariant-loop decreases-loop) where
   abbrev stride : ℕ
   stride = (start putting).args.stride
 
-  within : 32 + l.loop.n * stride + stride ≤ record_size stride
-  within = omega (arith, piece_within stride l.loop.n 8 k.loop-test.taken)
+  within : 32 + l.loop-n.n * stride + stride ≤ record_size stride
+  within = omega (arith, piece_within stride l.loop-n.n 8 k.loop-n-test.true)
 
-  line_long : length l.loop.line ≡ line_size stride
-  line_long = l.loop.inv.1.0 ∙ putting.put.kept.0 ∙ long putting
+  line_long : length l.loop-n.line ≡ line_size stride
+  line_long = l.loop-n.invariant.1.0 ∙ putting.put.kept.0 ∙ long putting
 
-loop-again : tie.Need-loop-preserved invariant-loop decreases-loop
+loop-again : tie.Need-loop-n-preserved invariant-loop decreases-loop
 loop-again c =
     let p = c.before.before in
     let k = p.before.before.before in
-    let n = (l k).loop.n in
-    let (_, (kept, is)) = (l k).loop.invariant in
-    let wide = (start (putting k)).pre.1 in (
+    let n = (l k).loop-n.n in
+    let (_, (kept, is)) = (l k).loop-n.invariant in
+    let wide = (start (putting k)).requires.1 in (
       omega arith,
       (
-        p.put2.auto.0 ∙ kept,
-        ap (record_of (stride k)) p.put2.ensures
-            ∙ take_pasted (record_size (stride k)) (l k).loop.line (1 ∷ 4 ∷ []) (32 + n * stride k)
+        p.put-in-loop-n.auto.0 ∙ kept,
+        ap (record_of (stride k)) p.put-in-loop-n.ensures
+            ∙ take_pasted (record_size (stride k)) (l k).loop-n.line (1 ∷ 4 ∷ []) (32 + n * stride k)
             (omega (arith, within k, wide)) (omega (arith, line_long k))
             ∙ ap (λ (d : List ℕ). pasted d (32 + n * stride k) (1 ∷ 4 ∷ [])) is
-            ∙ unknown_more (stride k) wide n k.loop-test.true,
+            ∙ unknown_more (stride k) wide n k.loop-n-test.true,
       ),
     )
 
@@ -86,8 +86,8 @@ returns c =
     let l = c.before in
     let s = start l.before.before.before in
     let stride = s.args.stride in
-    let e : l.loop.n ≡ 8 = omega arith in
-    subst (Carries stride unknown_state) (sym (l.loop.invariant.1.1 ∙ ap (unknown_to stride) e)) (unknown_carried stride s.pre.1)
+    let e : l.loop-n.n ≡ 8 = omega arith in
+    subst (Carries stride unknown_state) (sym (l.loop-n.invariant.1.1 ∙ ap (unknown_to stride) e)) (unknown_carried stride s.requires.1)
 
 pub put_unknown_spec : {M : Type 1} → statement M
 put_unknown_spec =
@@ -105,5 +105,5 @@ put_unknown_spec =
     (λ c. omega arith)
     (λ c. omega arith)
     loop-again
-    (λ c. c.before.loop.invariant.1.0 ∙ c.before.before.before.before.put.auto.0)
+    (λ c. c.before.loop-n.invariant.1.0 ∙ c.before.before.before.before.put.auto.0)
     returns)

@@ -14,42 +14,42 @@ use Rattle.baselines.proofs.Noted.{Noting, noting_room, noting_one, noting_none,
 use Rattle.baselines.proofs.noting.note_begins.Statement.{statement}
 use Rattle.baselines.proofs.noting.note_begins.Tie as tie
 
-abbrev invariant-loop : tie.invariant-loop
+abbrev invariant-loop : tie.invariant-loop-i
 invariant-loop permanent events₀ size count n₀ i₀ events n i =
     Noting permanent (λ s. s.period.begin) (λ j. j) (begins 0 (slices_of permanent)) 0 events n i
 
-abbrev decreases-loop : tie.decreases-loop
+abbrev decreases-loop : tie.decreases-loop-i
 decreases-loop permanent events₀ size count n₀ i₀ events n i = count - i
 
-loop-holds : tie.Need-loop-init invariant-loop decreases-loop
+loop-holds : tie.Need-loop-i-init invariant-loop decreases-loop
 loop-holds c =
     let s = c.before.before.before.before in
     record { sound = s.requires.0; low = omega arith; few = omega arith; within = omega arith; sized = s.requires.1; all = refl }
 
-more : (k : tie.In-loop invariant-loop decreases-loop)
-    → k.before.loop.i < count_of k.before.before.before.before.before.before.args.permanent.now
-more k = omega (arith, k.loop-test.true, k.before.before.count_of.ensures)
+more : (k : tie.In-loop-i invariant-loop decreases-loop)
+    → k.before.loop-i.i < count_of k.before.before.before.before.before.before.args.permanent.now
+more k = omega (arith, k.loop-i-test.true, k.before.before.count_of-count.ensures)
 
 -- there is room for one more
-low : (k : tie.In-loop invariant-loop decreases-loop) → (k.before.loop.n < 512) × (k.before.loop.i < 256)
-low k = noting_room k.before.loop.invariant (more k)
+low : (k : tie.In-loop-i invariant-loop decreases-loop) → (k.before.loop-i.n < 512) × (k.before.loop-i.i < 256)
+low k = noting_room k.before.loop-i.invariant (more k)
 
-loop-again : tie.Need-loop-preserved invariant-loop decreases-loop
+loop-again : tie.Need-loop-i-preserved invariant-loop decreases-loop
 unfolding view_of
 loop-again c =
     let o = c.before.before.before in
     let k = o.before.before in
     let l = k.before in
-    let r = read_by _ l.loop.i l.before.before.record-size.ensures o.before.record-at.ensures.0 in
-    let t = ap (λ x. x.begin) (o.period-of.ensures ∙ ap period_of r) in
+    let r = read_by _ l.loop-i.i l.before.before.record_size-size.ensures o.before.record_at.ensures.0 in
+    let t = ap (λ x. x.begin) (o.period_of-period.ensures ∙ ap period_of r) in
     let none = sym c.before.is_none.ensures in
     ⊎_elim
-    (λ w. rw (w.2, w.3) (noting_one l.loop.invariant (more k) t (none ∙ not-true _ w.0.taken) w.1.ensures))
-    (λ w. rw (w.1, w.2) (noting_none l.loop.invariant (more k) t (none ∙ not-false _ w.0.left)))
-    c.if1.branch
+    (λ w. rw (w.2, w.3) (noting_one l.loop-i.invariant (more k) t (none ∙ not-true _ w.0.true) w.1.ensures))
+    (λ w. rw (w.1, w.2) (noting_none l.loop-i.invariant (more k) t (none ∙ not-false _ w.0.false)))
+    c.if-not-is_none.branch
 
 returns : tie.Need-returns invariant-loop decreases-loop
-returns c = noting_end c.before.loop.invariant (omega (arith, c.before.before.count_of.ensures))
+returns c = noting_end c.before.loop-i.invariant (omega (arith, c.before.before.count_of-count.ensures))
 
 pub note_begins_spec : {M : Type 1} → statement M
 note_begins_spec =

@@ -14,10 +14,9 @@ use Rattle.slice.proofs.Times.{instant_most}
 use Rattle.history.specs.State.{applied}
 use Rattle.baselines.proofs.Carried.{carried_born, carried_ended, take_time}
 use borrow.Author.Rules.{rules}
-use Rattle.baselines.proofs.line.apply.Statement.{statement}
-use Rattle.baselines.proofs.line.apply.Tie as tie
+use Rattle.baselines.proofs.line.apply.Goals as goal
 
-returns : tie.Need-returns
+pub returns : goal.returns
 unfolding applied view_of no_instant
 returns c =
     let e = c.before.before in
@@ -25,36 +24,25 @@ returns c =
     let life = b.before.before in
     let m = life.before.before.before in
     let known = m.before.before in
-    let a = known.before.before.args in
+    let a = known.args in
     let delta : List ℕ = a.delta.now in
-    let bytes : Bytes delta = λ i. (known.shared-slice-known.given i).fits in
+    let bytes : Bytes delta = λ i. (known.shared_slice_known-1.given i).fits in
     let born : (life_of delta).begin.0 < 4294967296 = omega (arith, instant_most delta 16 bytes) in
     let gone : (life_of delta).end.0 < 4294967296 = omega (arith, instant_most delta 20 bytes) in
     let start = known.before.before in
-    let long : record_size a.stride ≤ length m.put-mentions.new.0 = omega (arith, m.put-mentions.auto.0, start.requires.1)
+    let long : record_size a.stride ≤ length m.put_mentions.new.line = omega (arith, m.put_mentions.auto.0, start.requires.1)
     in
-    let first = take_time a.stride (is_none (life_of delta).begin) b.put-time.new.0 m.put-mentions.new.0
+    let first = take_time a.stride (is_none (life_of delta).begin) b.put_time.new.record m.put_mentions.new.line
     (bytes_of 4 (life_of delta).begin.0) 16 (omega arith) long
-    (b.put-time.ensures
-    ∙ ap (λ (l : Life). cond (is_none l.begin) m.put-mentions.new.0
-    (pasted m.put-mentions.new.0 16 (bytes_of 4 l.begin.0))) life.life-of.ensures) in
-    let second = take_time a.stride (is_none (life_of delta).end) e.put-time2.new.0 b.put-time.new.0
-    (bytes_of 4 (life_of delta).end.0) 20 (omega arith) (omega (arith, long, b.put-time.auto.0))
-    (e.put-time2.ensures
-    ∙ ap (λ (l : Life). cond (is_none l.end) b.put-time.new.0 (pasted b.put-time.new.0 20 (bytes_of 4 l.end.0)))
-    life.life-of.ensures) in
+    (b.put_time.ensures
+    ∙ ap (λ (l : Life). cond (is_none l.begin) m.put_mentions.new.line
+    (pasted m.put_mentions.new.line 16 (bytes_of 4 l.begin.0))) life.life_of-life.ensures) in
+    let second = take_time a.stride (is_none (life_of delta).end) e.put_time-2.new.record b.put_time.new.record
+    (bytes_of 4 (life_of delta).end.0) 20 (omega arith) (omega (arith, long, b.put_time.auto.0))
+    (e.put_time-2.ensures
+    ∙ ap (λ (l : Life). cond (is_none l.end) b.put_time.new.record (pasted b.put_time.new.record 20 (bytes_of 4 l.end.0)))
+    life.life_of-life.ensures) in
     λ s h.
     carried_ended a.stride _ _
-    (carried_born a.stride _ _ (m.put-mentions.ensures s h) (life_of delta).begin born _ first)
+    (carried_born a.stride _ _ (m.put_mentions.ensures s h) (life_of delta).begin born _ first)
     (life_of delta).end gone _ second
-
-pub apply_spec : {M : Type 1} → statement M
-apply_spec =
-    tie.close
-    (tie.spec
-    (λ c κs. search rules)
-    (λ c κs. search rules)
-    (λ c κs. search rules)
-    (λ c κs. search rules)
-    (λ c. search rules)
-    returns)
