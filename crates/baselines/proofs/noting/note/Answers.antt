@@ -2,7 +2,6 @@
 use Prim.Native.Nat.{ℕ}
 use mathlib.Core.Path.{ap, ◌∙◌}
 use mathlib.Core.List.{List, ◌++◌}
-use borrow.Author.Rules.{rules}
 use Rattle.state.specs.Asking.{slices_of}
 use Rattle.baselines.specs.Noting.{life_ends, noted}
 use Rattle.baselines.proofs.noting.note.Goals as goal
@@ -11,6 +10,5 @@ pub returns : goal.returns
 unfolding noted
 returns c =
     let e = c.note_ends.ensures in
-    let b = c.note_begins-n.ensures in
     let p = c.args.permanent.now in
-    (e.0, e.1 ∙ ap (λ (l : List ℕ). l ++ life_ends 0 (slices_of p)) b.1)
+    record { few = e.few; list = e.list ∙ ap (λ (l : List ℕ). l ++ life_ends 0 (slices_of p)) c.note_begins-n.ensures.list }
