@@ -42,11 +42,11 @@ loop-n-preserved c =
     let stride = c.args.stride in
     let inside = within n stride c.loop-n-test.true in
     let long : length l.line ≡ line_size stride =
-    l.invariant.1.0 ∙ c.put.auto.line ∙ ap length c.requires.0 ∙ length-replicate (line_size stride) 0 in
+    l.invariant.1.0 ∙ c.put.auto.s ∙ ap length c.requires.0 ∙ length-replicate (line_size stride) 0 in
     let wide = c.requires.1 in (
       omega arith,
       (
-        c.put-in-loop-n.auto.line ∙ l.invariant.1.0,
+        c.put-in-loop-n.auto.s ∙ l.invariant.1.0,
         ap (record_of stride) c.put-in-loop-n.ensures
             ∙ take_pasted (record_size stride) l.line (1 ∷ 4 ∷ []) (32 + n * stride) (omega (arith, inside, wide)) (omega (arith, long))
             ∙ ap (λ (d : List ℕ). pasted d (32 + n * stride) (1 ∷ 4 ∷ [])) l.invariant.1.1
