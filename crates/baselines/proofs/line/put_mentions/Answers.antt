@@ -56,23 +56,23 @@ loop-n-preserved c =
     let goes : (to : ℕ) → c.if-byte-eq0.to ≡ to → record_of stride c.copy.new.line ≡ record_of stride (pasted l.line to bytes) =
     λ to e. ap (record_of stride) (c.copy.ensures ∙ ap (λ (n : ℕ). pasted l.line n bytes) e) in
     let carried : (s : State) (h : Carries stride s (record_of stride c.args.line.now))
-        → record_of stride c.copy.new.line ≡ partly stride d s _ h (suc n) =
+    → record_of stride c.copy.new.line ≡ partly stride d s _ h (suc n) =
     λ s h.
-        let was = l.invariant.1.1 s h in
-        elim c.if-byte-eq0.branch [
-          | then-byte-eq0 w ↦
-            goes (record_size stride) (w.to-is ∙ size)
-            ∙ take_behind (record_size stride) l.line bytes (omega (arith, bytes_long, long))
-            ∙ was
-            ∙ sym (partly_skip stride d s _ h eight spoken n
-            (view_skips stride delta n few size (sym c.byte.ensures ∙ w.if-byte-eq0.true)))
-          | else-byte-eq0 w ↦
-            goes at w.to-is
-            ∙ take_pasted (record_size stride) l.line bytes at (omega (arith, bytes_long, inside, size)) (omega (arith, long))
-            ∙ ap (λ (r : List ℕ). pasted r at bytes) was
-            ∙ partly_put stride d s _ h eight spoken n bytes
-            (view_says stride delta n few size (λ z. w.if-byte-eq0.false (c.byte.ensures ∙ z))) few bytes_long
-        ] in
+    let was = l.invariant.1.1 s h in
+    elim c.if-byte-eq0.branch [
+      | then-byte-eq0 w ↦
+          goes (record_size stride) (w.to-is ∙ size)
+          ∙ take_behind (record_size stride) l.line bytes (omega (arith, bytes_long, long))
+          ∙ was
+          ∙ sym (partly_skip stride d s _ h eight spoken n
+          (view_skips stride delta n few size (sym c.byte.ensures ∙ w.if-byte-eq0.true)))
+      | else-byte-eq0 w ↦
+          goes at w.to-is
+          ∙ take_pasted (record_size stride) l.line bytes at (omega (arith, bytes_long, inside, size)) (omega (arith, long))
+          ∙ ap (λ (r : List ℕ). pasted r at bytes) was
+          ∙ partly_put stride d s _ h eight spoken n bytes
+          (view_says stride delta n few size (λ z. w.if-byte-eq0.false (c.byte.ensures ∙ z))) few bytes_long
+    ] in
     let more : n + 1 ≡ suc n = omega arith in
     (omega arith, (c.copy.auto.line ∙ l.invariant.1.0, λ s h. rw more (carried s h)))
 

@@ -2,7 +2,7 @@
 use Prim.Native.Nat.{◌-◌, ◌≤◌}
 use mathlib.Core.Path.{◌≡◌}
 use lib.ListN.{length}
-use Rattle.baselines.specs.Carried.{line_size, record_of}
+use Rattle.baselines.specs.Carried.{record_of}
 use Rattle.baselines.proofs.Carried.{unknown_to}
 use Rattle.baselines.proofs.line.put_unknown.Given as goal
 

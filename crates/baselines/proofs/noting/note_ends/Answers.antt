@@ -16,7 +16,12 @@ use Rattle.baselines.proofs.noting.note_ends.Goals.{then-not-is_none, else-not-i
 pub loop-i-init : goal.loop-i-init
 loop-i-init c =
     record {
-      sound = c.requires.0; low = c.requires.1.1; few = omega arith; within = omega arith; sized = c.requires.1.0; all = refl
+      sound = c.requires.0;
+      low = c.requires.1.1;
+      few = omega arith;
+      within = omega arith;
+      sized = c.requires.1.0;
+      all = refl;
     }
 
 pub returns-then-byte-ne-BASELINE : goal.returns-then-byte-ne-BASELINE

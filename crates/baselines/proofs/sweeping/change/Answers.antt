@@ -23,14 +23,14 @@ returns c =
     let gone_is : c.if-not-is.gone ≡ cond (same_instant s.begin c.args.t) s.gone (new_time life.end s.gone) =
     elim c.if-not-is.branch [
       | then-not-is w ↦ let n : same_instant s.begin c.args.t ≡ false = sym q ∙ w.if-not-is.true in
-        w.gone-is ∙ w.newer-gone.ensures ∙ ap (λ (l : Life). new_time l.end s.gone) lived ∙ sym (rw n)
+          w.gone-is ∙ w.newer-gone.ensures ∙ ap (λ (l : Life). new_time l.end s.gone) lived ∙ sym (rw n)
       | else-not-is w ↦ let n : same_instant s.begin c.args.t ≡ true = sym q ∙ w.if-not-is.false in w.gone-is ∙ sym (rw n)
     ] in
     -- that of the opening
     let left_is : c.if-s-ne0.left ≡ cond (eqb s.openings 0) life.end (new_time life.end s.left) =
     elim c.if-s-ne0.branch [
       | then-s-ne0 w ↦ w.left-is ∙ w.newer-left.ensures ∙ ap (λ (l : Life). new_time l.end s.left) lived
-        ∙ sym (rw (ne_eqb _ _ w.if-s-ne0.true))
+          ∙ sym (rw (ne_eqb _ _ w.if-s-ne0.true))
       | else-s-ne0 w ↦ w.left-is ∙ ap (λ (l : Life). l.end) lived ∙ sym (rw (eq-eqb _ _ w.if-s-ne0.false))
     ] in
     let opens_is : c.if-is_none.opens ≡ cond (is_none life.begin) 0 1 =

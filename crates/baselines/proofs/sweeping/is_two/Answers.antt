@@ -1,6 +1,5 @@
 -- `baselines::sweeping::is_two` meets its contract. Assumes nothing.
 use Rattle.baselines.specs.Sweeping.{is_two}
-use borrow.Author.Rules.{rules}
 use Rattle.baselines.proofs.sweeping.is_two.Goals as goal
 
 pub returns : goal.returns
