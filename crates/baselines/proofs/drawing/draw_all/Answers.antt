@@ -5,7 +5,6 @@ use native.Mathlib.Omega.{arith}
 use lib.ListN.{length, take, replicate}
 use Rattle.slice.specs.Record.{record_size}
 use Rattle.baselines.specs.Carried.{Carries, line_size, record_of, unknown_state}
-use borrow.Author.Rules.{rules}
 use Rattle.baselines.proofs.drawing.draw_all.Goals as goal
 
 -- zeros, of which a line has so many
@@ -15,23 +14,13 @@ zeros size stride e f = λ i. take (e i + f i - 0) (replicate 320 0)
 
 pub put_unknown-requires : goal.put_unknown-requires
 put_unknown-requires c =
-    let s = c.before.before.before in
-    let e = s.stride_of-stride.ensures in
-    (zeros _ _ s.record_size-size.ensures e ∙ ap (λ (k : ℕ). replicate (line_size k) 0) (sym e), omega (arith, e))
+    let e = c.stride_of-stride.ensures in
+    (zeros _ _ c.record_size-size.ensures e ∙ ap (λ (k : ℕ). replicate (line_size k) 0) (sym e), omega (arith, e))
 
-pub draw_events-requires : goal.draw_events-requires
-draw_events-requires c =
-    let u = c.before.before.before in
-    let s = u.before.before.before.before in
-    let n = s.stride_of-stride in
-    let start = s.before.before.before.before.before in
-    let long = ap length (zeros _ _ s.record_size-size.ensures n.ensures) in (
-      start.requires.0,
-      (
-        start.requires.1,
-        (
-          (long, u.put_unknown.auto.0 ∙ long),
-          subst (λ (k : ℕ). Carries k unknown_state (record_of k u.put_unknown.new.line)) n.ensures u.put_unknown.ensures,
-        ),
-      ),
+pub draw_events-requires-clause-lines : goal.draw_events-requires-clause-lines
+draw_events-requires-clause-lines c =
+    let n = c.stride_of-stride in
+    let long = ap length (zeros _ _ c.record_size-size.ensures n.ensures) in (
+      (long, c.put_unknown.auto.line ∙ long),
+      subst (λ (k : ℕ). Carries k unknown_state (record_of k c.put_unknown.new.line)) n.ensures c.put_unknown.ensures,
     )
