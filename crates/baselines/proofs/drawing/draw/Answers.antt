@@ -12,10 +12,9 @@ use Rattle.state.proofs.Pasting.{pasted_all}
 use Rattle.baselines.specs.Carried.{record_of}
 use Rattle.baselines.proofs.Carried.{carried_drawn}
 use borrow.Author.Rules.{rules}
-use Rattle.baselines.proofs.drawing.draw.Statement.{statement}
-use Rattle.baselines.proofs.drawing.draw.Tie as tie
+use Rattle.baselines.proofs.drawing.draw.Goals as goal
 
-returns : tie.Need-returns
+pub returns : goal.returns
 returns c =
     let k = c.before.before in
     let p = k.before.before.before.before in
@@ -32,15 +31,3 @@ returns c =
     (p.put.ensures ∙ ap (λ (n : ℕ). pasted a.«record».now 0 (take n a.line.now)) size
     ∙ pasted_all a.«record».now r (start.requires.0 ∙ sym long))
     ∙ carried_drawn a.stride s r h a.sequence.0 a.begin a.end
-
-pub draw_spec : {M : Type 1} → statement M
-draw_spec =
-    tie.close
-    (tie.spec
-    (λ c. search rules)
-    (λ c. search rules)
-    (λ c. omega arith)
-    (λ c κs. search rules)
-    (λ c κs. search rules)
-    (λ c. search rules)
-    returns)

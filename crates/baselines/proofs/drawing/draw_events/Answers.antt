@@ -1,0 +1,147 @@
+-- `baselines::drawing::draw_events` meets its contract: each turn passes an event and carries both lines on, or draws the record
+-- of a change instant behind those before it. Assumes nothing.
+use Prim.Native.Nat.{ℕ, ◌+◌, ◌-◌, ◌*◌, ◌≤◌, ◌<◌}
+use mathlib.Core.Path.{◌≡◌, sym, ap, ◌∙◌}
+use mathlib.Core.List.{List}
+use native.Mathlib.Omega.{arith}
+use lib.ListN.{length}
+use borrow.Rule.Slice.PartMut.{mid_len}
+use Rattle.laws.specs.Lists.{joined}
+use Rattle.octets.specs.Writing.{pasted}
+use Rattle.numbers.specs.Numbers.{no_instant}
+use Rattle.slice.specs.Record.{record_size}
+use Rattle.table.specs.Header.{stride_of}
+use Rattle.state.proofs.Walks.{read_by}
+use Rattle.baselines.proofs.Drawn.{drawing_start, drawing_record, drawing_gone, drawing_on, drawing_past}
+use Rattle.baselines.proofs.Drawn.{drawing_room, drawing_more}
+use Rattle.baselines.proofs.Going.{Turn, going_few, going_within, going_sized, going_end}
+use Rattle.baselines.proofs.drawing.draw_events.Goals as goal
+use Rattle.baselines.proofs.drawing.draw_events.Goals.{After-is, Then-is_known, then-place-lt256, else-place-lt256}
+
+pub loop-s-init : goal.loop-s-init
+loop-s-init c =
+    drawing_start (λ i. (c.type_inv.permanent i).fits) c.requires.sound c.requires.room c.requires.lines.0
+    c.requires.lines.1 c.head-t.ensures c.start-s.ensures
+
+-- ---- a turn: the next event, and whether it is of the instant
+turn : (c : After-is) → Turn c.args.events.now c.loop-s.at c.loop-s.t c.head-next.result c.is.result
+turn c = record {
+  go = sym c.is_none.ensures ∙ c.loop-s-test.true;
+  ahead = c.head-next.ensures;
+  is = c.is.ensures;
+}
+
+-- ---- an event is passed
+pub offset_bounds-events-at : goal.offset_bounds-events-at
+offset_bounds-events-at c =
+    omega (arith, going_within c.loop-s.invariant.going (turn (goal.at.offset_bounds-events-at c).After-is) c.if-is.true)
+
+pub bounds-events-at : goal.bounds-events-at
+bounds-events-at c =
+    (going_within c.loop-s.invariant.going (turn (goal.at.bounds-events-at c).After-is) c.if-is.true).0
+
+pub carry-s-requires : goal.carry-s-requires
+carry-s-requires c =
+    let l = c.loop-s in
+    let stride : c.stride_of-stride.result ≡ stride_of c.args.permanent.now = c.stride_of-stride.ensures in (
+      rw stride l.invariant.long,
+      (
+        going_sized l.invariant.going (turn (goal.at.carry-s-requires c).After-is) c.if-is.true c.place_of-place.ensures
+            (read_by _ _ c.record_size-size.ensures c.record_at-record.ensures.bytes) c.if-place-lt256.true
+            ∙ ap record_size (sym stride),
+        going_few l.invariant.going,
+      ),
+    )
+
+pub overflow_add-at : goal.overflow_add-at
+overflow_add-at c =
+    omega (arith, going_within c.loop-s.invariant.going (turn (goal.at.overflow_add-at c).After-is) c.if-is.true)
+
+pub loop-s-smaller-then-is : goal.loop-s-smaller-then-is
+loop-s-smaller-then-is c =
+    omega (arith, going_within c.loop-s.invariant.going (turn (goal.at.loop-s-smaller-then-is c).After-is) c.if-is.true)
+
+pub loop-s-preserved-then-is : goal.loop-s-preserved-then-is
+loop-s-preserved-then-is c =
+    let l = c.loop-s in
+    let u = turn (goal.at.loop-s-preserved-then-is c).After-is in
+    let place = c.place_of-place.ensures in
+    elim c.if-place-lt256.branch [
+      | then-place-lt256 w ↦
+          rw (w.base-is, w.line-is) (drawing_record l.invariant u c.if-is.true place
+          (read_by _ _ c.record_size-size.ensures w.record_at-record.ensures.bytes) w.if-place-lt256.true
+          c.stride_of-stride.ensures (w.s-is ∙ w.carry-s.ensures.sweep) w.carry-s.ensures.lines w.carry-s.auto.base
+          w.carry-s.auto.line)
+      | else-place-lt256 w ↦
+          rw (w.base-is, w.line-is, w.s-is) (drawing_gone l.invariant u c.if-is.true
+          (λ h. omega (arith, w.if-place-lt256.false, place)))
+    ]
+
+-- ---- a change instant is done; where there is a state, its record
+room : (c : Then-is_known) → Turn c.args.events.now c.loop-s.at c.loop-s.t c.head-next.result c.is.result
+    → (c.loop-s.count + 1 ≤ 256)
+    × (32 + c.loop-s.count * c.record_size-size.result + c.record_size-size.result ≤ 57376)
+    × (32 + c.loop-s.count * c.record_size-size.result + c.record_size-size.result ≤ length c.loop-s.output)
+room c u =
+    drawing_room c.loop-s.invariant u c.if-is.false c.requires.sound.2
+    c.next_of-end.ensures (sym c.is_known.ensures ∙ c.if-is_known.true) c.record_size-size.ensures c.requires.room
+
+pub overflow_mul-from : goal.overflow_mul-from
+overflow_mul-from c = omega (arith, room (goal.at.overflow_mul-from c).Then-is_known (turn (goal.at.overflow_mul-from c).After-is))
+
+pub overflow_add-from : goal.overflow_add-from
+overflow_add-from c = omega (arith, room (goal.at.overflow_add-from c).Then-is_known (turn (goal.at.overflow_add-from c).After-is))
+
+pub overflow_add-count : goal.overflow_add-count
+overflow_add-count c = omega (arith, room (goal.at.overflow_add-count c).Then-is_known (turn (goal.at.overflow_add-count c).After-is))
+
+pub overflow_cast-sequence : goal.overflow_cast-sequence
+overflow_cast-sequence c = omega (arith, room (goal.at.overflow_cast-sequence c).Then-is_known (turn (goal.at.overflow_cast-sequence c).After-is))
+
+pub overflow_add-record : goal.overflow_add-record
+overflow_add-record c = omega (arith, room (goal.at.overflow_add-record c).Then-is_known (turn (goal.at.overflow_add-record c).After-is))
+
+pub slice_bounds-record-end : goal.slice_bounds-record-end
+slice_bounds-record-end c = omega (arith, room (goal.at.slice_bounds-record-end c).Then-is_known (turn (goal.at.slice_bounds-record-end c).After-is))
+
+pub draw_known-requires : goal.draw_known-requires
+draw_known-requires c =
+    let k = room (goal.at.draw_known-requires c).Then-is_known (turn (goal.at.draw_known-requires c).After-is) in
+    let bytes = c.record_size-size.result in
+    let from = 32 + c.loop-s.count * bytes in
+    let stride : c.stride_of-stride.result ≡ stride_of c.args.permanent.now = c.stride_of-stride.ensures in
+    let size : bytes ≡ record_size (stride_of c.args.permanent.now) = c.record_size-size.ensures in (
+      mid_len from (from + bytes) c.loop-s.output (omega (arith, k.2)) ∙ omega (arith, size) ∙ ap record_size (sym stride),
+      rw stride c.loop-s.invariant.long,
+    )
+
+pub loop-s-smaller-then-is_known : goal.loop-s-smaller-then-is_known
+loop-s-smaller-then-is_known c =
+    let (f, b) = drawing_on c.loop-s.invariant (turn (goal.at.loop-s-smaller-then-is_known c).After-is) c.if-is.false
+    c.requires.sound.2 c.next_of-end.ensures in
+    omega (arith, f, b)
+
+pub loop-s-preserved-then-is_known : goal.loop-s-preserved-then-is_known
+loop-s-preserved-then-is_known c =
+    let bytes = c.record_size-size.result in
+    let from = 32 + c.loop-s.count * bytes in
+    let whole : from + bytes - from ≡ bytes = omega arith in
+    drawing_more c.loop-s.invariant (turn (goal.at.loop-s-preserved-then-is_known c).After-is) c.if-is.false
+    c.requires.sound.2 c.next_of-end.ensures (sym c.is_known.ensures ∙ c.if-is_known.true) c.record_size-size.ensures
+    c.requires.room c.stride_of-stride.ensures c.draw_known.ensures whole
+
+pub loop-s-smaller : goal.loop-s-smaller
+loop-s-smaller c =
+    let (f, b) = drawing_on c.loop-s.invariant (turn (goal.at.loop-s-smaller c).After-is) c.if-is.false
+    c.requires.sound.2 c.next_of-end.ensures in
+    omega (arith, f, b)
+
+pub loop-s-preserved : goal.loop-s-preserved
+loop-s-preserved c =
+    drawing_past c.loop-s.invariant (turn (goal.at.loop-s-preserved c).After-is) c.if-is.false c.requires.sound.2
+    c.next_of-end.ensures (sym c.is_known.ensures ∙ c.if-is_known.false)
+
+pub returns : goal.returns
+returns c =
+    let (all, _) = going_end c.loop-s.invariant.going (sym c.is_none.ensures ∙ c.loop-s-test.false) in
+    c.loop-s.invariant.drawn ∙ ap (λ (d : List (List ℕ)). pasted c.args.output.now 32 (joined d)) (sym all)
