@@ -1,7 +1,6 @@
 -- `state::front::held_with` meets its contract: a case for each. Assumes nothing.
 use mathlib.Core.Path.{◌≡◌, sym, ap, ◌∙◌}
 use mathlib.Core.Bool.{true}
-use borrow.Author.Tests.{not-true, not-false}
 use Rattle.numbers.specs.Numbers.{before}
 use Rattle.state.specs.declared.anchor.Few.{Few}
 use Rattle.state.proofs.Bases.{held_not, held_fixed, held_endless, held_closed}

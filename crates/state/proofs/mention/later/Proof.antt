@@ -2,7 +2,6 @@
 use mathlib.Core.Path.{◌≡◌, sym, ap, ◌∙◌}
 use mathlib.Core.Bool.{◌||◌, ◌&&◌}
 use lib.Dec.{eqb}
-use borrow.Author.Tests.{not-true, not-false}
 use Rattle.laws.specs.Orders.{lex_less}
 use Rattle.numbers.specs.Numbers.{numbers}
 use Rattle.history.specs.Permanent.{turn_less}

@@ -3,7 +3,6 @@ use mathlib.Core.Path.{sym, ◌∙◌}
 use native.Mathlib.Omega.{arith}
 use Rattle.text.specs.Listing.{decimal_of, end_of}
 use Rattle.text.proofs.TextWriting.{wrote_most}
-use borrow.Author.Rules.{rules}
 use Rattle.text.proofs.lines.put_end.Goals as goal
 
 pub returns-then-is_none : goal.returns-then-is_none

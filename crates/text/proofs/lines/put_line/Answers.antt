@@ -1,7 +1,6 @@
 -- `text::lines::put_line` meets its contract. Assumes nothing.
 use native.Mathlib.Omega.{arith}
 use Rattle.text.proofs.TextWriting.{then, line_pieces}
-use borrow.Author.Rules.{rules}
 use Rattle.text.proofs.lines.put_line.Goals as goal
 
 pub returns : goal.returns

@@ -1,7 +1,6 @@
 -- `text::lines::put_period` meets its contract. Assumes nothing.
 use native.Mathlib.Omega.{arith}
 use Rattle.text.proofs.TextWriting.{then}
-use borrow.Author.Rules.{rules}
 use Rattle.text.proofs.lines.put_period.Goals as goal
 
 pub returns : goal.returns

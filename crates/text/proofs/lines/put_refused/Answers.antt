@@ -2,7 +2,6 @@
 use native.Mathlib.Omega.{arith}
 use Rattle.text.specs.Listing.{decimal_of}
 use Rattle.text.proofs.TextWriting.{then}
-use borrow.Author.Rules.{rules}
 use Rattle.text.proofs.lines.put_refused.Goals as goal
 
 pub returns : goal.returns

@@ -5,7 +5,6 @@ use native.Mathlib.Omega.{arith}
 use lib.ListN.{take}
 use Rattle.text.specs.Listing.{listing_reply}
 use Rattle.text.proofs.TextWriting.{wrote_front}
-use borrow.Author.Rules.{rules}
 use Rattle.text.proofs.listing.list.Goals as goal
 
 pub returns : goal.returns

@@ -1,5 +1,5 @@
 -- `text::listing::put_listing` meets its contract: the text of what the derivation answers. Assumes nothing.
-use Rattle.std.proofs.Common.{◌≡◌, rules, arith}
+use Rattle.std.proofs.Common.{rules, arith}
 use Rattle.baselines.proofs.Replies.{derivation_told}
 use Rattle.text.proofs.ListingRecords.{derived_room, derived_text, refused_text}
 use Rattle.text.proofs.TextWriting.{wrote_most}

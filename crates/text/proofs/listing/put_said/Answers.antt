@@ -8,7 +8,6 @@ use lib.ListN.{length, drop}
 use borrow.Author.Tests.{lt-ltb, le-ltb}
 use Rattle.octets.proofs.Writing.{pasted_whole}
 use Rattle.text.specs.Listing.{put_of}
-use borrow.Author.Rules.{rules}
 use Rattle.text.proofs.listing.put_said.Goals as goal
 
 pub returns-then-text-said : goal.returns-then-text-said

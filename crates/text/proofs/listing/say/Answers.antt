@@ -2,7 +2,6 @@
 use mathlib.Core.Path.{ap}
 use borrow.Author.Tests.{lt-ltb, le-ltb}
 use Rattle.text.specs.Listing.{said_of, listing_reply}
-use borrow.Author.Rules.{rules}
 use Rattle.text.proofs.listing.say.Goals as goal
 
 pub returns-then-input-gt57376 : goal.returns-then-input-gt57376
