@@ -10,7 +10,7 @@ use Rattle.timeslices.proofs.tsl_permanent_state.Goals as goal
 -- what was written, by the answer that is defined
 by_answer : (p : List ℕ) (i : Instant) (b written : List ℕ) (a : Outcome) → outcome_reply a ≡ outcome_reply (permanent_state_of p i b) → written ≡ after_state a p i b
     → written ≡ after_state (permanent_state_of p i b) p i b
-by_answer p i b written a e x = x ∙ ap (λ (b : Outcome). after_state b p i b) (outcome_told a (permanent_state_of p i b) e)
+by_answer p i b written a e x = x ∙ ap (λ (o : Outcome). after_state o p i b) (outcome_told a (permanent_state_of p i b) e)
 
 pub returns : goal.returns
 returns c =

@@ -10,7 +10,7 @@ use Rattle.timeslices.proofs.tsl_snapshot.Goals as goal
 -- what was written, by the answer that is defined
 by_answer : (p t : List ℕ) (i : Instant) (b written : List ℕ) (a : Outcome) → outcome_reply a ≡ outcome_reply (snapshot_of p t i b) → written ≡ after_snapshot a p t i b
     → written ≡ after_snapshot (snapshot_of p t i b) p t i b
-by_answer p t i b written a e x = x ∙ ap (λ (b : Outcome). after_snapshot b p t i b) (outcome_told a (snapshot_of p t i b) e)
+by_answer p t i b written a e x = x ∙ ap (λ (o : Outcome). after_snapshot o p t i b) (outcome_told a (snapshot_of p t i b) e)
 
 pub returns : goal.returns
 returns c =

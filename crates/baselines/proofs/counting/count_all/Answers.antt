@@ -1,9 +1,7 @@
 -- `baselines::counting::count_all` meets its contract: each turn passes an event or counts a change instant. Assumes nothing.
-use Prim.Native.Nat.{ℕ, ◌≤◌, ◌<◌}
 use mathlib.Core.Path.{◌≡◌, sym, ap, ◌∙◌}
 use mathlib.Core.Bool.{false}
 use native.Mathlib.Omega.{arith}
-use lib.ListN.{length}
 use Rattle.laws.proofs.Tests.{tests}
 use Rattle.numbers.specs.Numbers.{no_instant}
 use Rattle.state.proofs.Walks.{read_by}

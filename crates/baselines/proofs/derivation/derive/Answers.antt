@@ -2,7 +2,6 @@
 use Prim.Native.Nat.{ℕ, ◌-◌}
 use mathlib.Core.Path.{◌≡◌, refl, sym, ap, ◌∙◌}
 use mathlib.Core.Bool.{false}
-use mathlib.Core.List.{List}
 use native.Mathlib.Omega.{arith}
 use lib.ListN.{length, take}
 use Rattle.laws.specs.Lists.{any}
@@ -65,7 +64,7 @@ hand_over-requires-clause-sound c =
 
 pub hand_over-requires-clause-few : goal.hand_over-requires-clause-few
 hand_over-requires-clause-few c =
-    (c.if-count-gt256.false, (told (goal.at.hand_over-requires-clause-few c).In-Records).1)
+    (omega arith, (told (goal.at.hand_over-requires-clause-few c).In-Records).1)
 
 pub returns-in-Two-clause-answer : goal.returns-in-Two-clause-answer
 returns-in-Two-clause-answer c =

@@ -28,13 +28,12 @@ long c =
     derived_long c.args.permanent.now (λ i. (c.type_inv.permanent i).fits) c.requires.sound.0
     ∙ ap (λ (n : ℕ). n * 224) (sym c.requires.few.1)
 
-
 pub returns-then-output-count-clause-answer : goal.returns-then-output-count-clause-answer
 unfolding handed_of
 returns-then-output-count-clause-answer c =
     let k = (goal.at.returns-then-output-count-clause-answer c).After-record_size in
     sym (rw (lt-ltb (length c.args.output.now) (32 + length (joined (derived_records c.args.permanent.now)))
-      (omega (arith, long k, sized k, c.if-output-count.true))))
+    (omega (arith, long k, sized k, c.if-output-count.true))))
 
 pub slice_bounds-put_header-end : goal.slice_bounds-put_header-end
 slice_bounds-put_header-end c = let h = (sound_table sides.Permanent _ c.requires.sound.0).headed in omega (arith, h)

@@ -11,23 +11,19 @@ use Rattle.slice.specs.Record.{record_size}
 use Rattle.state.proofs.Pasting.{pasted_all}
 use Rattle.baselines.specs.Carried.{record_of}
 use Rattle.baselines.proofs.Carried.{carried_drawn}
-use borrow.Author.Rules.{rules}
 use Rattle.baselines.proofs.drawing.draw.Goals as goal
 
 pub returns : goal.returns
 returns c =
-    let k = c.before.before in
-    let p = k.before.before.before.before in
-    let start = p.before.before.before.before.before in
-    let a = start.args in
-    let size : length a.«record».now - 0 ≡ record_size a.stride = omega (arith, start.requires.0) in
+    let a = c.args in
+    let size : length a.«record».now - 0 ≡ record_size a.stride = omega (arith, c.requires.0) in
     let r = record_of a.stride a.line.now in
     let long : length r ≡ record_size a.stride =
-    length-take-le (record_size a.stride) a.line.now (omega (arith, start.requires.1)) in
+    length-take-le (record_size a.stride) a.line.now (omega (arith, c.requires.1)) in
     λ s h.
-    k.put_front.ensures
+    c.put_front.ensures
     ∙ ap (λ (d : List ℕ). pasted d 0
     (1 ∷ 0 ∷ 0 ∷ 0 ∷ bytes_of 4 a.sequence.0 ++ (bytes_of 4 a.begin.0 ++ bytes_of 4 a.end.0)))
-    (p.put.ensures ∙ ap (λ (n : ℕ). pasted a.«record».now 0 (take n a.line.now)) size
-    ∙ pasted_all a.«record».now r (start.requires.0 ∙ sym long))
+    (c.put.ensures ∙ ap (λ (n : ℕ). pasted a.«record».now 0 (take n a.line.now)) size
+    ∙ pasted_all a.«record».now r (c.requires.0 ∙ sym long))
     ∙ carried_drawn a.stride s r h a.sequence.0 a.begin a.end

@@ -1,6 +1,6 @@
 -- `baselines::drawing::draw_events` meets its contract: each turn passes an event and carries both lines on, or draws the record
 -- of a change instant behind those before it. Assumes nothing.
-use Prim.Native.Nat.{ℕ, ◌+◌, ◌-◌, ◌*◌, ◌≤◌, ◌<◌}
+use Prim.Native.Nat.{ℕ, ◌+◌, ◌-◌, ◌*◌, ◌≤◌}
 use mathlib.Core.Path.{◌≡◌, sym, ap, ◌∙◌}
 use mathlib.Core.List.{List}
 use native.Mathlib.Omega.{arith}
@@ -8,7 +8,6 @@ use lib.ListN.{length}
 use borrow.Rule.Slice.PartMut.{mid_len}
 use Rattle.laws.specs.Lists.{joined}
 use Rattle.octets.specs.Writing.{pasted}
-use Rattle.numbers.specs.Numbers.{no_instant}
 use Rattle.slice.specs.Record.{record_size}
 use Rattle.table.specs.Header.{stride_of}
 use Rattle.state.proofs.Walks.{read_by}

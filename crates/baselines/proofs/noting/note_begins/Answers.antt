@@ -1,13 +1,12 @@
 -- `baselines::noting::note_begins` meets its contract. Assumes nothing.
 use Prim.Native.Nat.{◌<◌}
-use mathlib.Core.Path.{refl, sym, ap, ◌∙◌}
+use mathlib.Core.Path.{refl, ap, ◌∙◌}
 use native.Mathlib.Omega.{arith}
 use Rattle.slice.specs.Record.{period_of, view_of}
 use Rattle.table.specs.Header.{count_of}
 use Rattle.state.proofs.Walks.{read_by}
 use Rattle.baselines.proofs.Noted.{noting_room, noting_one, noting_none, noting_end}
 use Rattle.baselines.proofs.noting.note_begins.Goals as goal
-use Rattle.baselines.proofs.noting.note_begins.Goals.{then-not-is_none, else-not-is_none}
 
 pub loop-i-init : goal.loop-i-init
 loop-i-init c =
@@ -33,11 +32,7 @@ loop-i-preserved c =
     let more : l.i < count_of p = omega (arith, c.loop-i-test.true, c.count_of-count.ensures) in
     let r = read_by p l.i c.record_size-size.ensures c.record_at.ensures.bytes in
     let t = ap (λ x. x.begin) (c.period_of-period.ensures ∙ ap period_of r) in
-    let none = sym c.is_none.ensures in
-    elim c.if-not-is_none.branch [
-      | then-not-is_none w ↦ rw (w.events-is, w.n-is) (noting_one l.invariant more t (none ∙ w.if-not-is_none.true) w.event_of.ensures)
-      | else-not-is_none w ↦ rw (w.events-is, w.n-is) (noting_none l.invariant more t (none ∙ w.if-not-is_none.false))
-    ]
+    grind (arith, noting_one l.invariant more t, noting_none l.invariant more t)
 
 pub returns : goal.returns
 returns c =

@@ -1,0 +1,32 @@
+-- `baselines::drawing::draw_known` meets its contract: the line that is at hand says the state. Assumes nothing.
+use mathlib.Core.Path.{◌≡◌, sym, ap, ◌∙◌, subst}
+use mathlib.Core.Bool.{true}
+use Rattle.numbers.specs.Numbers.{before}
+use Rattle.history.specs.State.{State}
+use Rattle.history.specs.Sweep.{Seen}
+use Rattle.baselines.specs.Sweeping.{times_of, is_known}
+use Rattle.baselines.specs.Carried.{Carries, record_of}
+use Rattle.baselines.specs.declared.sweeping.Sweep.{Sweep}
+use Rattle.baselines.proofs.Lines.{known_line}
+use Rattle.baselines.proofs.drawing.draw_known.Goals as goal
+use Rattle.baselines.proofs.drawing.draw_known.Goals.{After-is_based}
+
+-- whether the BASELINE that began last holds, told by what is seen
+based : (q : After-is_based) (v : Seen) → q.args.s ≡ times_of v → before q.args.t v.end ≡ q.is_based.result
+based q v e = ap (λ (s : Sweep). before q.args.t s.end) (sym e) ∙ sym q.is_based.ensures
+
+pub returns-then-is_based : goal.returns-then-is_based
+returns-then-is_based c =
+    λ v e known lines.
+    let b = based (goal.at.returns-then-is_based c).After-is_based v e ∙ c.if-is_based.true in
+    c.draw.ensures v.base (lines.based b) ∙ sym (rw b)
+
+pub returns-else-is_based : goal.returns-else-is_based
+returns-else-is_based c =
+    let a = c.args in
+    λ v e known lines.
+    let b = based (goal.at.returns-else-is_based c).After-is_based v e ∙ c.if-is_based.false in
+    let k : is_known (times_of v) a.t ≡ true = ap (λ (s : Sweep). is_known s a.t) (sym e) ∙ known in
+    c.draw-else-is_based.ensures v.line
+    (subst (λ (s : State). Carries a.stride s (record_of a.stride a.line.now)) (known_line v a.t k b) lines.opened)
+    ∙ sym (rw b)
