@@ -57,6 +57,7 @@ fn is_begun(record: &[u8], instant: Instant) -> bool
 }
 
 // What a begin leaves: it closes those without an end that began before it.
+#[tactic(auto, using(crate::proofs::Bases::closed_later, crate::proofs::Bases::closed_not))]
 fn closed_by(bases: Bases, begin: Instant) -> Bases
     ensures { result ≡ closed_by begin bases }
 {
