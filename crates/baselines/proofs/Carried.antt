@@ -14,7 +14,7 @@ use borrow.Author.Tests.{eq-eqb, ne_eqb, not-true}
 use Rattle.laws.specs.Lists.{joined, all}
 use Rattle.laws.specs.Keyed.{In}
 use Rattle.laws.proofs.Tests.{tests, contrary, and_both}
-use Rattle.laws.proofs.Lists.{get_d_in, map_in, in_map, all_in, rest_whole}
+use Rattle.laws.proofs.Lists.{get_or_in, map_in, in_map, all_in, rest_whole}
 use Rattle.laws.proofs.Pieces.{Sized, pieces_sized, joined_pieces}
 use Rattle.octets.specs.Bytes.{byte_of, be_of, filled, Bytes}
 use Rattle.octets.specs.Writing.{bytes_of, pasted}
@@ -199,7 +199,7 @@ module _ (stride : ℕ) where
           → pasted (partly n) (32 + n * stride) b ≡ partly (suc n)
       partly_put n b e l k =
           let old = property_bytes stride (get_or s.properties n unmentioned) in
-          let h : length old ≡ stride = c.sized _ (get_d_in s.properties n unmentioned (omega (arith, c.eight))) in
+          let h : length old ≡ stride = c.sized _ (get_or_in s.properties n unmentioned (omega (arith, c.eight))) in
           let m : 32 + n * stride ≡ length (c.front ++ mid) + n * stride = omega (arith, length-append c.front mid, c.long) in
           ap (λ (k : ℕ). pasted (partly n) k b) m
           ∙ put_piece stride (nil_unknown stride) n (c.front ++ mid) (parts news) (parts s.properties) b old []

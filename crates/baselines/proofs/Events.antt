@@ -11,7 +11,7 @@ use lib.Dec.{eqb}
 use borrow.Author.Tests.{eq-eqb}
 use Rattle.laws.specs.Keyed.{In}
 use Rattle.laws.proofs.Tests.{tests, pick_ind, by-test, contrary, iff, and_both, or_either}
-use Rattle.laws.proofs.Lists.{get_d_in, in_at}
+use Rattle.laws.proofs.Lists.{get_or_in, in_at}
 use Rattle.octets.specs.Bytes.{byte_of, be_of, each, there, filled, Bytes}
 use Rattle.octets.proofs.Runs.{filled_join}
 use Rattle.octets.proofs.Stored.{digits_full}
@@ -212,7 +212,7 @@ module _ (p : List ℕ) (bytes : Bytes p) (sound : check_table Permanent p ≡ S
   pub in_slices : (j : ℕ) → j < count_of p → In (slice_at p j) slices
   in_slices j h =
       subst (λ s. In s slices) (slice_at_lem p j (slice_at p j) h (roomy p sound))
-      (get_d_in slices j (slice_at p j) (omega (arith, slices_length p)))
+      (get_or_in slices j (slice_at p j) (omega (arith, slices_length p)))
 
   -- a slice by its place
   place_of_lem : (x : Slice) → In x slices
@@ -248,7 +248,7 @@ module _ (p : List ℕ) (bytes : Bytes p) (sound : check_table Permanent p ≡ S
   from_ends e m =
       let (k, h, g, q) = notes_in gone_of (λ _. nowhere) 0 slices (slice_at p 0) e m in
       let b = get_or slices k (slice_at p 0) in
-      let i = get_d_in slices k (slice_at p 0) h in
+      let i = get_or_in slices k (slice_at p 0) h in
       let (kind, is) = gone_given b g in
       let own : given b.life.end ≡ true = ap given (sym is) ∙ g in
       let time : time_of e ≡ b.life.end = ap time_of q ∙ ap (λ (t : Instant). time_of (event_of t nowhere)) is ∙ gone_time b i in

@@ -13,7 +13,7 @@ use borrow.Author.Tests.{lt-ltb}
 use Rattle.laws.specs.Lists.{kept}
 use Rattle.laws.specs.Keyed.{In, Rising, sorted}
 use Rattle.laws.proofs.Tests.{tests, pick_ind, by-test, contrary, never, and_both}
-use Rattle.laws.proofs.Lists.{get_d_in, kept_in}
+use Rattle.laws.proofs.Lists.{get_or_in, kept_in}
 use Rattle.laws.proofs.Orders.{pair_less, lex_true, true_lex}
 use Rattle.laws.proofs.Places.{KeyOrder, less_asym, less_on}
 use Rattle.laws.proofs.Fresh.{sorted_rising, sorted_within, sorted_key, sorted_same}
@@ -185,7 +185,7 @@ module _ {K : Type 0} (key : Slice → K) (less same : K → K → Bool) (o : Ke
         go b (some p) e q =
             let (l, g, t) = latest_placed later test slices p e in
             let s : p.slice ≡ b = some-injective p.slice b q in
-            (subst (λ z. In z slices) (g b ∙ s) (get_d_in slices p.place b l), rw s at t)
+            (subst (λ z. In z slices) (g b ∙ s) (get_or_in slices p.place b l), rw s at t)
 
 -- ---- the TEMPDELTAs that are valid
 -- slices of one kind rise by sequence number

@@ -4,7 +4,7 @@ use Rattle.laws.specs.OneAnswer.{OneAnswer}
 use Rattle.laws.proofs.OneAnswer.{same}
 use Rattle.slice.proofs.Replies.{checked_told}
 use Rattle.slice.proofs.check.number_of.Kinds as number-of-k
-use Rattle.slice.proofs.check.number_of.Reads as number_of_lem
+use Rattle.slice.proofs.check.number_of.Reads as number_of
 use Rattle.slice.proofs.check.check_record.Kinds as check-record-k
 use Rattle.slice.proofs.check.check_record.Reads as check-record
 use Rattle.slice.proofs.check.check_records.Kinds as check-records-k
@@ -20,7 +20,7 @@ use Rattle.slice.proofs.record.side_takes.Reads as side-takes
 use Rattle.slice.proofs.record.is_cancelled.Kinds as is-cancelled-k
 use Rattle.slice.proofs.record.is_cancelled.Reads as is-cancelled
 use Rattle.slice.proofs.record.correction_of.Kinds as correction-of-k
-use Rattle.slice.proofs.record.correction_of.Reads as correction_of_lem
+use Rattle.slice.proofs.record.correction_of.Reads as correction_of
 use Rattle.slice.proofs.record.key_of.Kinds as key-of-k
 use Rattle.slice.proofs.record.key_of.Reads as key_of
 use Rattle.slice.proofs.record.period_of.Kinds as period-of-k
@@ -32,7 +32,7 @@ use Rattle.slice.proofs.rules.times_right.Reads as times-right
 use Rattle.slice.proofs.rules.content_right.Kinds as content-right-k
 use Rattle.slice.proofs.rules.content_right.Reads as content-right
 
-pub number_of_one : OneAnswer number-of-k.ps number-of-k.r number_of_lem.Asked number_of_lem.Learnt
+pub number_of_one : OneAnswer number-of-k.ps number-of-k.r number_of.Asked number_of.Learnt
 number_of_one κs a = (tt, λ z z' ws ws' p q. (same p q, refl))
 
 pub check_record_one : OneAnswer check-record-k.ps check-record-k.r check-record.Asked check-record.Learnt
@@ -56,7 +56,7 @@ side_takes_one κs a = (tt, λ z z' ws ws' p q. (same p q, refl))
 pub is_cancelled_one : OneAnswer is-cancelled-k.ps is-cancelled-k.r is-cancelled.Asked is-cancelled.Learnt
 is_cancelled_one κs a = (tt, λ z z' ws ws' p q. (same p q, refl))
 
-pub correction_of_one : OneAnswer correction-of-k.ps correction-of-k.r correction_of_lem.Asked correction_of_lem.Learnt
+pub correction_of_one : OneAnswer correction-of-k.ps correction-of-k.r correction_of.Asked correction_of.Learnt
 correction_of_one κs a = (tt, λ z z' ws ws' p q. (same p q, refl))
 
 pub key_of_one : OneAnswer key-of-k.ps key-of-k.r key_of.Asked key_of.Learnt

@@ -16,7 +16,7 @@ use Rattle.table.proofs.header.stride_of.Reads as stride-of
 use Rattle.table.proofs.header.record_size.Kinds as record-size-k
 use Rattle.table.proofs.header.record_size.Reads as record-size
 use Rattle.table.proofs.header.room_of.Kinds as room-of-k
-use Rattle.table.proofs.header.room_of.Reads as room_of_lem
+use Rattle.table.proofs.header.room_of.Reads as room_of
 use Rattle.table.proofs.header.record_at.Kinds as record-at-k
 use Rattle.table.proofs.header.record_at.Reads as record-at
 use Rattle.table.proofs.check.takes_side.Kinds as takes-side-k
@@ -43,7 +43,7 @@ stride_of_one κs a = (tt, λ z z' ws ws' p q. (same p q, refl))
 pub record_size_one : OneAnswer record-size-k.ps record-size-k.r record-size.Asked record-size.Learnt
 record_size_one κs a = (tt, λ z z' ws ws' p q. (same p q, refl))
 
-pub room_of_one : OneAnswer room-of-k.ps room-of-k.r room_of_lem.Asked room_of_lem.Learnt
+pub room_of_one : OneAnswer room-of-k.ps room-of-k.r room_of.Asked room_of.Learnt
 room_of_one κs a = (tt, λ z z' ws ws' p q. (same p q, refl))
 
 pub record_at_one : OneAnswerAs record-at-k.ps record-at-k.r (λ κs. shown) record-at.Asked record-at.Learnt

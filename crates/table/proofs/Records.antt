@@ -9,7 +9,7 @@ use lib.ListN.{length, drop, get_or, drop_of_length-le}
 use lib.Seq.{drop-drop, drop-cons}
 use borrow.Author.Tests.{lt-ltb}
 use Rattle.laws.specs.Keyed.{In}
-use Rattle.laws.proofs.Lists.{length-pieces, get_d_in}
+use Rattle.laws.proofs.Lists.{length-pieces, get_or_in}
 use Rattle.laws.proofs.Pieces.{piece_at}
 use Rattle.table.specs.Header.{count_of, room_of, records_of, record_at}
 
@@ -41,7 +41,7 @@ module _ (size : ℕ) (t : List ℕ) where
 
   pub record_in : (i : ℕ) → i < count_of t → count_of t ≤ room_of size t → In (record_at size i t) (records_of size t)
   record_in i h r =
-      subst (λ x. In x (records_of size t)) (sym (record_is i h r)) (get_d_in (records_of size t) i [] (omega (arith, records_length)))
+      subst (λ x. In x (records_of size t)) (sym (record_is i h r)) (get_or_in (records_of size t) i [] (omega (arith, records_length)))
 
   -- what a walk that has come to record i has before it
   pub rest_at : (i : ℕ) → i < count_of t → count_of t ≤ room_of size t

@@ -8,7 +8,7 @@ use lib.ListN.{length, take, drop, length-append, length-take, length-drop}
 use lib.Seq.{drop-drop, length-take-le, take_at, drop_at, take-take, get_or-take, get_or-drop}
 use lib.Dec.{leb, eqb}
 use Rattle.laws.specs.Lists.{joined}
-use Rattle.laws.proofs.Lists.{drop_past, get_d_past}
+use Rattle.laws.proofs.Lists.{drop_past, get_or_past}
 use Rattle.laws.proofs.Pieces.{Sized, pieces_joined}
 use Rattle.octets.specs.Bytes.{byte_of, filled}
 use Rattle.octets.specs.Writing.{bytes_of}
@@ -100,8 +100,8 @@ module _ (t : List ℕ) (rs : List (List ℕ)) (h : 32 ≤ length t) (fits : 32 
     pub written_count : count_of (written t rs) ≡ length rs
     written_count =
         let long = written_alike.long in
-        let high : byte_of (written t rs) 6 ≡ length rs / 256 % 256 = rw split (get_d_past (take 6 t) behind 6 0 six 0) in
-        let low : byte_of (written t rs) 7 ≡ length rs % 256 = rw split (get_d_past (take 6 t) behind 6 1 six 0) in
+        let high : byte_of (written t rs) 6 ≡ length rs / 256 % 256 = rw split (get_or_past (take 6 t) behind 6 0 six 0) in
+        let low : byte_of (written t rs) 7 ≡ length rs % 256 = rw split (get_or_past (take 6 t) behind 6 1 six 0) in
         be_whole 2 (written t rs) 6 (omega arith) ∙ rw (high, low) (omega arith)
 
     -- and holds them
