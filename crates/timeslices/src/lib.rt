@@ -1,5 +1,5 @@
 // The interface for C: each answer of the library as numbers. Nothing is asked of the caller beyond
-// memory that is there. include/timeslices.h says the same in C.
+// memory that is there. include/timeslices.h says the same in C, and crate timeslices_c exports it.
 #![tactic(auto)]
 
 ghost use Rattle.std.specs.Prelude.{◌≡◌, ◌≤◌};
@@ -38,8 +38,7 @@ pub struct Part {
 }
 
 // Makes a table of a side and a feature that holds no record: kind 1. Refused: 1 and 2.
-#[unsafe(no_mangle)]
-pub extern "C" fn tsl_new_table(table: &mut [u8], side: u8, feature: &[u8; 16]) -> Answer
+pub fn tsl_new_table(table: &mut [u8], side: u8, feature: &[u8; 16]) -> Answer
     ensures answer { result ≡ numbers_of (creation_reply (creation_of table.old side)) }
     ensures buffer { table.new ≡ created (creation_of table.old side) table.old side
         feature.now }
@@ -55,8 +54,7 @@ pub extern "C" fn tsl_new_table(table: &mut [u8], side: u8, feature: &[u8; 16]) 
 
 // Takes a delivered slice into a table: 1 Added, 2 Replaced, 3 Superseded, 4 Repeat. Refused: 1 to 7 and 9
 // to 18.
-#[unsafe(no_mangle)]
-pub extern "C" fn tsl_arrive(table: &mut [u8], slice: &[u8]) -> Answer
+pub fn tsl_arrive(table: &mut [u8], slice: &[u8]) -> Answer
     ensures answer { result ≡ numbers_of (arrival_reply (arrival_of table.old slice.now)) }
     ensures buffer { table.new ≡ arrived_at table.old slice.now }
 {
@@ -87,8 +85,7 @@ fn told(outcome: Outcome) -> Answer
 
 // Writes the permanent state at an instant into a record of the table's size: kind 1. Refused, with every
 // byte as it was: 1 to 7 and 19 to 23.
-#[unsafe(no_mangle)]
-pub extern "C" fn tsl_permanent_state(permanent: &[u8], instant: u32, record: &mut [u8]) -> Answer
+pub fn tsl_permanent_state(permanent: &[u8], instant: u32, record: &mut [u8]) -> Answer
     ensures answer { result
         ≡ numbers_of (outcome_reply (permanent_state_of permanent.now (instant_of instant) «record».old)) }
     ensures buffer { «record».new
@@ -100,13 +97,7 @@ pub extern "C" fn tsl_permanent_state(permanent: &[u8], instant: u32, record: &m
 
 // Writes the snapshot at an instant into a record of the tables' size: kind 1. Refused, with every byte as
 // it was: 1 to 8 and 19 to 23.
-#[unsafe(no_mangle)]
-pub extern "C" fn tsl_snapshot(
-    permanent: &[u8],
-    temporary: &[u8],
-    instant: u32,
-    record: &mut [u8],
-) -> Answer
+pub fn tsl_snapshot(permanent: &[u8], temporary: &[u8], instant: u32, record: &mut [u8]) -> Answer
     ensures answer { result
         ≡ numbers_of
         (outcome_reply (snapshot_of permanent.now temporary.now (instant_of instant) «record».old)) }
@@ -134,13 +125,7 @@ fn part_at(kind: u32, table: &[u8], place: usize) -> Part
 
 // Which table has the bytes of a property at an instant, and where: 1 permanent, 2 temporary, 3
 // unmentioned. Refused: 1 to 8 and 19 to 22.
-#[unsafe(no_mangle)]
-pub extern "C" fn tsl_property(
-    permanent: &[u8],
-    temporary: &[u8],
-    instant: u32,
-    property: u8,
-) -> Part
+pub fn tsl_property(permanent: &[u8], temporary: &[u8], instant: u32, property: u8) -> Part
     ensures { result ≡ part_of permanent.now temporary.now
         (place_reply (place_of permanent.now temporary.now (instant_of instant) property)) }
 {
@@ -175,8 +160,7 @@ fn with_count(kind: u32, looked: usize) -> Answer
 
 // Whether anything temporary has touched a property at an instant: 1 yes, 2 no, and how many records were
 // looked at, from the last downward. Refused: 1 to 7 and 19.
-#[unsafe(no_mangle)]
-pub extern "C" fn tsl_touched(temporary: &[u8], instant: u32, property: u8) -> Answer
+pub fn tsl_touched(temporary: &[u8], instant: u32, property: u8) -> Answer
     ensures { result ≡ numbers_of (touched_reply (touched_of temporary.now (instant_of instant) property)) }
 {
     match touched(temporary, Instant(instant), property) {
@@ -191,8 +175,7 @@ pub extern "C" fn tsl_touched(temporary: &[u8], instant: u32, property: u8) -> A
 
 // Derives the baselines of a permanent table into the output: kind 1, and their number. Refused, with every
 // byte as it was: 1 to 7, 21, 23 and 24.
-#[unsafe(no_mangle)]
-pub extern "C" fn tsl_derive(permanent: &[u8], output: &mut [u8]) -> Answer
+pub fn tsl_derive(permanent: &[u8], output: &mut [u8]) -> Answer
     ensures answer { result ≡ numbers_of (derivation_reply (derivation_of permanent.now output.old)) }
     ensures buffer { output.new ≡ after_deriving (derivation_of permanent.now output.old)
         permanent.now output.old }
@@ -211,8 +194,7 @@ pub extern "C" fn tsl_derive(permanent: &[u8], output: &mut [u8]) -> Answer
 
 // Writes the listing of a permanent table's derived baselines as text: kind 1, and its length. Where the
 // buffer is shorter: kind 2, the length that the text needs, and every byte as it was. A refusal is a text.
-#[unsafe(no_mangle)]
-pub extern "C" fn tsl_listing(permanent: &[u8], text: &mut [u8]) -> Answer
+pub fn tsl_listing(permanent: &[u8], text: &mut [u8]) -> Answer
     ensures answer { result ≡ numbers_of (listing_reply (put_of (listing_of permanent.now) text.old)) }
     ensures buffer { text.new ≡ after_put (put_of (listing_of permanent.now) text.old)
         (listing_of permanent.now) text.old }

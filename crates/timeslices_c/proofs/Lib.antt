@@ -1,0 +1,2 @@
+-- each export asks nothing and leaves one answer
+pub mod OneAnswer
