@@ -1,4 +1,4 @@
--- `table::header::room_of_lem` meets its contract: a quotient, and nothing where there is none. Assumes nothing.
+-- `table::header::room_of` meets its contract: a quotient, and nothing where there is none. Assumes nothing.
 use Prim.Native.Nat.{◌-◌}
 use mathlib.Core.Path.{◌≡◌}
 use native.Mathlib.Nat.{zero-div, div-zero}
