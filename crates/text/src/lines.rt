@@ -48,7 +48,7 @@ fn put_number(s: &mut [u8], at: usize, n: u32) -> usize
 }
 
 // Writes an end, or `-`.
-#[tactic(auto, using(crate::proofs::TextWriting::wrote_most), unfolding(crate::specs::Listing::end_of, crate::specs::Listing::decimal_of))]
+#[tactic(auto, using(crate::proofs::TextWriting::wrote_most), unfolding(crate::specs::Listing::listings))]
 fn put_end(s: &mut [u8], at: usize, end: Instant) -> usize
     requires { at + 10 ≤ length s.old }
     ensures { Wrote 10 s.old at (end_of end) s.new result }

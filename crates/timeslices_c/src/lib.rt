@@ -3,7 +3,8 @@
 
 ghost use Rattle.std.specs.Prelude.{◌≡◌};
 ghost use Rattle.table.specs.Arriving.{creation_of, creation_reply, created, arrival_of, arrival_reply, arrived_at};
-ghost use Rattle.state.specs.Asking.{permanent_state_of, snapshot_of, outcome_reply, after_state, after_snapshot, place_of, place_reply};
+ghost use Rattle.state.specs.Asking.{permanent_state_of, snapshot_of, outcome_reply, after_state, after_snapshot};
+ghost use Rattle.state.specs.Asking.{place_of, place_reply};
 ghost use Rattle.state.specs.Touched.{touched_of, touched_reply};
 ghost use Rattle.baselines.specs.Deriving.{derivation_of, derivation_reply, after_deriving};
 ghost use Rattle.timeslices.specs.Answers.{instant_of, numbers_of, part_of};
