@@ -23,10 +23,11 @@ use Rattle.octets.proofs.Stored.{number_bytes, zero_bytes, cut}
 use Rattle.numbers.specs.Numbers.{no_instant, is_none}
 use Rattle.numbers.specs.declared.Instant.{Instant}
 use Rattle.property.specs.Eight.{mentioned, properties_of}
-use Rattle.slice.specs.Record.{record_size, Property, unmentioned, says, Slice, view_of, baseline, parts_of, is_mentioned, property_of}
+use Rattle.slice.specs.Record.{record_size, Property, unmentioned, says, Slice, view_of, baseline, parts_of, is_mentioned}
+use Rattle.slice.specs.Record.{property_of}
 use Rattle.slice.proofs.View.{property_mentioned}
 use Rattle.slice.specs.Rules.{content_of, content_right}
-use Rattle.slice.specs.declared.check.Checked.TheVariants.{Sound}
+use Rattle.std.specs.Prelude.{Ok}
 use Rattle.slice.proofs.Times.{instant_most}
 use Rattle.table.specs.Header.{count_of, stride_of, record_at}
 use Rattle.table.specs.Rules.{check_table}
@@ -343,7 +344,7 @@ module _ (stride : ℕ) where
     }
 
 -- ---- a BASELINE of a sound table
-module _ (p : List ℕ) (bytes : Bytes p) (sound : check_table Permanent p ≡ Sound) where
+module _ (p : List ℕ) (bytes : Bytes p) (sound : check_table Permanent p ≡ Ok tt) where
   abbrev at : ℕ → List ℕ
   at i = record_at (record_size (stride_of p)) i p
 

@@ -20,14 +20,12 @@ use Rattle.octets.specs.Bytes.{Bytes}
 use Rattle.octets.specs.Writing.{pasted}
 use Rattle.octets.proofs.Writing.{pasted_then, pasted_whole}
 use Rattle.slice.specs.Record.{permanent, record_size, view_of}
-use Rattle.slice.specs.declared.check.Refusal.{Refusal}
-use Rattle.slice.specs.declared.check.Checked.TheVariants.{Sound, Refused}
+use Rattle.std.specs.Prelude.{Ok, Err}
 use Rattle.table.specs.Header.{stride_of, count_of, feature_of, room_of, records_of, written, header_of}
 use Rattle.table.specs.Rules.{fails, table_tests, check_table, takes}
 use Rattle.table.specs.Arriving.{creation_of}
 use Rattle.table.specs.Deliveries.{holding}
 use Rattle.table.specs.declared.check.Sides.TheVariants.{Permanent, Both}
-use Rattle.table.specs.declared.create.Creation.TheVariants.{Made}
 use Rattle.table.proofs.NewTable.{made}
 use Rattle.table.proofs.Sound.{SoundTable, sound_table, table_sound}
 use Rattle.table.proofs.Stays.{Good, all_good, good_sized, within, stays}
@@ -40,39 +38,36 @@ use Rattle.state.specs.Written.{nil_unknown}
 use Rattle.state.proofs.PropertyPlace.{tests_sound}
 use Rattle.baselines.specs.Deriving.{derived_records, deriving_tests, refused_derivation, derivation_of}
 use Rattle.baselines.specs.Steps.{counted_of, handed_of}
-use Rattle.baselines.specs.declared.derivation.Derivation.TheVariants as derivation
-use Rattle.baselines.specs.declared.counting.Counted.TheVariants.{Two, Records}
-use Rattle.baselines.specs.declared.derivation.Derivation.TheVariants.{Derived}
 use Rattle.baselines.proofs.Passes.{derived_views, derived_up}
 
 -- ---- what the first sweep tells
-counted_two : (b : Bool) (m : ℕ) → cond b Two (Records m) ≡ Two → b ≡ true
-counted_two true m e = refl
-counted_two false m e = cc
+counted_two : (b : Bool) (m n : ℕ) → cond b (refused_derivation 21) (Ok m) ≡ Err n → (b ≡ true) × (n ≡ 21)
+counted_two true m n e = (refl, cc)
+counted_two false m n e = (cc, cc)
 
-counted_records : (b : Bool) (m n : ℕ) → cond b Two (Records m) ≡ Records n → (b ≡ false) × (n ≡ m)
+counted_records : (b : Bool) (m n : ℕ) → cond b (refused_derivation 21) (Ok m) ≡ Ok n → (b ≡ false) × (n ≡ m)
 counted_records true m n e = (cc, cc)
 counted_records false m n e = (refl, cc)
 
 module _ (p : List ℕ) where
-  pub told_two : counted_of p ≡ Two → two_anchors (slices_of p) ≡ true
+  pub told_two : (n : ℕ) → counted_of p ≡ Err n → (two_anchors (slices_of p) ≡ true) × (n ≡ 21)
   unfolding counted_of
   told_two = counted_two (two_anchors (slices_of p)) (length (derived_records p))
 
-  pub told_records : (n : ℕ) → counted_of p ≡ Records n → (two_anchors (slices_of p) ≡ false) × (n ≡ length (derived_records p))
+  pub told_records : (n : ℕ) → counted_of p ≡ Ok n → (two_anchors (slices_of p) ≡ false) × (n ≡ length (derived_records p))
   unfolding counted_of
   told_records = counted_records (two_anchors (slices_of p)) (length (derived_records p))
 
 -- ---- the tests in their order
 module _ (p output : List ℕ) where
-  pub table_refused : (f : Refusal) → check_table Permanent p ≡ Refused f → derivation.Refused f ≡ derivation_of p output
+  pub table_refused : (f : ℕ) → check_table Permanent p ≡ Err f → Err f ≡ derivation_of p output
   unfolding derivation_of permanent_tests check_table
   table_refused f e =
       sym (check_refuses refused_derivation (table_tests (stride_of p) Permanent p) (deriving_tests p output) _ f e)
 
-  module _ (e : check_table Permanent p ≡ Sound) where
+  module _ (e : check_table Permanent p ≡ Ok tt) where
     left : derivation_of p output ≡ refuse refused_derivation (deriving_tests p output)
-        (Derived (length (derived_records p)))
+        (Ok (length (derived_records p)))
     unfolding derivation_of permanent_tests check_table
     left = check_passes refused_derivation (table_tests (stride_of p) Permanent p) (deriving_tests p output) _ e
 
@@ -108,7 +103,7 @@ handed d feature r n k h =
 
 -- ---- a derivation that is not refused
 pub record Deriving (p output : List ℕ) (n : ℕ) : Type 0 where
-  pub table : check_table Permanent p ≡ Sound
+  pub table : check_table Permanent p ≡ Ok tt
   pub one : two_anchors (slices_of p) ≡ false
   pub sound : any (fails (stride_of p) permanent) (derived_records p) ≡ false
   pub number : n ≡ length (derived_records p)
@@ -116,12 +111,12 @@ pub record Deriving (p output : List ℕ) (n : ℕ) : Type 0 where
   pub fits : 32 + length (joined (derived_records p)) ≤ length output
 
 module _ (p output : List ℕ) (n : ℕ) where
-  pub derived_told : derivation_of p output ≡ Derived n → Deriving p output n
+  pub derived_told : derivation_of p output ≡ Ok n → Deriving p output n
   unfolding derivation_of deriving_tests permanent_tests
   derived_told e =
       let (passed, same) =
-      passed_answer refused_derivation (Derived n) (λ k q. true≢false cc) (permanent_tests p ++ deriving_tests p output)
-      (Derived (length (derived_records p))) e in
+      passed_answer refused_derivation (Ok n) (λ k q. true≢false cc) (permanent_tests p ++ deriving_tests p output)
+      (Ok (length (derived_records p))) e in
       let number : length (derived_records p) ≡ n = cc in
       let (table, rest) = passed_split (permanent_tests p) (deriving_tests p output) passed in
       let (many, short) =
@@ -136,11 +131,11 @@ module _ (p output : List ℕ) (n : ℕ) where
         fits = ltb-false _ _ short;
       }
 
-  pub told_derived : Deriving p output n → derivation_of p output ≡ Derived n
+  pub told_derived : Deriving p output n → derivation_of p output ≡ Ok n
   unfolding handed_of
   told_derived d =
       sym (few_left p output d.table d.one d.sound d.few)
-      ∙ rw (le-ltb (length output) (32 + length (joined (derived_records p))) d.fits) (ap Derived (sym d.number))
+      ∙ rw (le-ltb (length output) (32 + length (joined (derived_records p))) d.fits) (ap Ok (sym d.number))
 
 -- ---- the table
 module _ (p output : List ℕ) (n : ℕ) (d : Deriving p output n) where
@@ -156,7 +151,7 @@ module _ (p output : List ℕ) (n : ℕ) (d : Deriving p output n) where
   named : length (feature_of p) ≡ 16
   named = feature_long p (sound_table Permanent p d.table).headed
 
-  begun : creation_of output permanent ≡ Made
+  begun : creation_of output permanent ≡ Ok tt
   begun = made output permanent (omega (arith, d.fits)) refl
 
   -- the new table in the output, into which the records are written
@@ -209,7 +204,7 @@ module _ (p output : List ℕ) (n : ℕ) (d : Deriving p output n) where
 
   module _ (bytes : Bytes p) where
     -- it passes 1 to 7
-    pub derived_sound : check_table Permanent derived ≡ Sound
+    pub derived_sound : check_table Permanent derived ≡ Ok tt
     derived_sound =
         let h = stays (stride_of p) Both fresh fresh_sound records good roomy (derived_up p bytes d.table d.few) in
         ap (check_table Permanent) (sym is)

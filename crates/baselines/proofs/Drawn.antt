@@ -24,7 +24,7 @@ use Rattle.state.specs.Asking.{slices_of}
 use Rattle.state.proofs.Pasting.{pasted_none}
 use Rattle.baselines.specs.Noting.{head_of}
 use Rattle.baselines.specs.Sweeping.{times_of, passed_with, is_known, is_two, next_with}
-use Rattle.baselines.specs.Carried.{Carries, record_of, Lined, unknown_state, Lines, GoesOn}
+use Rattle.baselines.specs.Carried.{Carries, record_of, unknown_state, Lines, GoesOn}
 use Rattle.baselines.specs.Steps.{Sweepable, FitsIn, drawn_record, DrawsKnown}
 use Rattle.baselines.specs.declared.sweeping.Sweep.{Sweep}
 use Rattle.baselines.proofs.Going.{Going, Turn, state_at, going_start, going_drawn, going_comes, going_record, going_gone}
@@ -55,18 +55,16 @@ pub record Drawing (p E o base line output : List ℕ) (s : Sweep) (at : ℕ) (t
   pub done : List (List ℕ)
   pub going : Going p E s at t count xs done
   pub lines : Lines (stride_of p) (seen xs) t base line
-  pub long : Lined (stride_of p) base line
   pub drawn : output ≡ pasted o 32 (joined done)
 
-pub drawing_start : {p E o base line : List ℕ} → Bytes p → Sweepable p E → FitsIn p o → Lined (stride_of p) base line
+pub drawing_start : {p E o base line : List ℕ} → Bytes p → Sweepable p E → FitsIn p o
     → Carries (stride_of p) unknown_state (record_of (stride_of p) line) → {t : Instant} → t ≡ head_of E → {s : Sweep}
     → s ≡ times_of nothing → Drawing p E o base line o s 0 t 0
-drawing_start {o = o} bytes (sound, are, _) fits long says {t} e k = record {
+drawing_start {o = o} bytes (sound, are, _) fits says {t} e k = record {
   xs = [];
   done = [];
   going = going_start bytes sound are e k;
   lines = record { based = λ b. contrary b (never_before t); opened = says };
-  long = long;
   drawn = pasted_none o 32 (omega (arith, fits.1));
 }
 
@@ -76,15 +74,14 @@ module _ {p E o base line output : List ℕ} {s : Sweep} {at : ℕ} {t : Instant
   module _ (now : same ≡ true) where
     pub drawing_record : {place : ℕ} → place ≡ place_of (get_or E at 0) → {r : List ℕ}
         → r ≡ record_at (record_size (stride_of p)) place p → place < 256 → {n : ℕ} → n ≡ stride_of p → {s' : Sweep}
-        → s' ≡ passed_with s r t → {base' line' : List ℕ} → GoesOn n s r t base line base' line' → length base' ≡ length base
-        → length line' ≡ length line → Drawing p E o base' line' output s' (at + 1) t count
-    drawing_record q {r} f small e k {base'} {line'} goes b l = record {
+        → s' ≡ passed_with s r t → {base' line' : List ℕ} → GoesOn n s r t base line base' line'
+        → Drawing p E o base' line' output s' (at + 1) t count
+    drawing_record q {r} f small e k {base'} {line'} goes = record {
       xs = _;
       done = d.done;
       going = going_record d.going u now q f small k;
       lines = subst (λ (m : ℕ). GoesOn m s r t base line base' line') e goes (seen d.xs) d.going.told
           (going_comes d.going u now q f small) d.lines;
-      long = (b ∙ d.long.0, l ∙ d.long.1);
       drawn = d.drawn;
     }
 
@@ -94,7 +91,6 @@ module _ {p E o base line output : List ℕ} {s : Sweep} {at : ℕ} {t : Instant
       done = d.done;
       going = going_gone d.going u now h;
       lines = d.lines;
-      long = d.long;
       drawn = d.drawn;
     }
 
@@ -117,7 +113,6 @@ module _ {p E o base line output : List ℕ} {s : Sweep} {at : ℕ} {t : Instant
       done = d.done;
       going = going_past d.going u past one e h;
       lines = later;
-      long = d.long;
       drawn = d.drawn;
     }
 
@@ -152,7 +147,6 @@ module _ {p E o base line output : List ℕ} {s : Sweep} {at : ℕ} {t : Instant
         done = d.done ++ (r ∷ []);
         going = more;
         lines = later;
-        long = d.long;
         drawn = (λ i. put_mid (32 + count * size) k (d.drawn i) (is i))
             ∙ drawn_behind o d.done r (32 + count * size) k from (y ∙ size_is ∙ sym r_long) room;
       }

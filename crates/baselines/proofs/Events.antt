@@ -21,7 +21,7 @@ use Rattle.events.specs.Order.{time_of, place_of, event_of, in_order, Pairs}
 use Rattle.events.proofs.Ordering.{time_of_event, place_of_event, order_in, in_order_lem, order_length, Ordered, order_pairs}
 use Rattle.slice.specs.Record.{baseline, permdelta, of_side, period_of, life_of, Slice, view_of}
 use Rattle.slice.specs.Rules.{times_of, times_right}
-use Rattle.slice.specs.declared.check.Checked.TheVariants.{Sound}
+use Rattle.std.specs.Prelude.{Ok}
 use Rattle.slice.proofs.Times.{begin_given, baseline_times_lem}
 use Rattle.table.specs.Header.{side_of, count_of}
 use Rattle.table.specs.Rules.{check_table}
@@ -139,7 +139,7 @@ IsGone p e =
 -- some events are those of a sound table, each of them, in order
 pub record Eventful (p E : List ℕ) : Type 0 where
   pub bytes : Bytes p
-  pub sound : check_table Permanent p ≡ Sound
+  pub sound : check_table Permanent p ≡ Ok tt
   pub from : (e : ℕ) → In e E → IsBegin p e ⊎ IsGone p e
   pub begin : (x : Slice) → In x (slices_of p) → is_counted x ≡ true
       → (e : ℕ) × In e E × (place_of e < count_of p) × (slice_at p (place_of e) ≡ x) × (time_of e ≡ x.period.begin)
@@ -148,7 +148,7 @@ pub record Eventful (p E : List ℕ) : Type 0 where
   pub order : Pairs (Ordered Behind) E
   pub few : length E ≤ 512
 
-module _ (p : List ℕ) (bytes : Bytes p) (sound : check_table Permanent p ≡ Sound) where
+module _ (p : List ℕ) (bytes : Bytes p) (sound : check_table Permanent p ≡ Ok tt) where
   abbrev slices : List Slice
   slices = slices_of p
 

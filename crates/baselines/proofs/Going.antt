@@ -17,7 +17,7 @@ use Rattle.numbers.specs.declared.Instant.{Instant}
 use Rattle.numbers.proofs.Facts.{none_false, same_true}
 use Rattle.events.specs.Order.{place_of, in_order}
 use Rattle.slice.specs.Record.{record_size, Slice, view_of}
-use Rattle.slice.specs.declared.check.Checked.TheVariants.{Sound}
+use Rattle.std.specs.Prelude.{Ok}
 use Rattle.table.specs.Header.{count_of, stride_of, record_at}
 use Rattle.table.specs.Rules.{check_table}
 use Rattle.table.specs.declared.check.Sides.TheVariants.{Permanent}
@@ -76,7 +76,7 @@ next_most s t next =
     tests)
     (λ _. omega tests)
 
-pub going_start : {p E : List ℕ} → Bytes p → check_table Permanent p ≡ Sound → E ≡ in_order (noted (slices_of p)) → {t : Instant}
+pub going_start : {p E : List ℕ} → Bytes p → check_table Permanent p ≡ Ok tt → E ≡ in_order (noted (slices_of p)) → {t : Instant}
     → t ≡ head_of E → {s : Sweep} → s ≡ times_of nothing → Going p E s 0 t 0 [] []
 going_start {p} {E} bytes sound are e k =
     let evs = subst (Eventful p) (sym are) (eventful p bytes sound) in

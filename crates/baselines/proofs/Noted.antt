@@ -18,7 +18,7 @@ use Rattle.events.specs.Order.{event_of}
 use Rattle.events.proofs.Steps.{placed}
 use Rattle.slice.specs.Record.{baseline, permdelta, record_size, Slice, view_of, of_side, kind_of, key_less, same_key}
 use Rattle.slice.proofs.Times.{instant_most}
-use Rattle.slice.specs.declared.check.Checked.TheVariants.{Sound}
+use Rattle.std.specs.Prelude.{Ok}
 use Rattle.slice.proofs.Keys.{key_order}
 use Rattle.table.specs.Header.{count_of, stride_of, records_of, side_of, room_of, record_at}
 use Rattle.table.specs.Rules.{check_table}
@@ -76,14 +76,15 @@ slice_at p j = view_of (stride_of p) (record_at (record_size (stride_of p)) j p)
 -- what is noted so far, and what the records that are left give
 pub record Noting (p : List ℕ) (time : Slice → Instant) (place : ℕ → ℕ) (whole : List ℕ) (from : ℕ) (d : List ℕ) (n i : ℕ) : Type 0
   where
-    pub sound : check_table Permanent p ≡ Sound
+    pub sound : check_table Permanent p ≡ Ok tt
+    pub most : count_of p ≤ 256
     pub low : from ≤ 256
     pub few : n ≤ from + i
     pub within : i ≤ count_of p
     pub sized : length d ≡ 512
     pub all : whole ≡ take n d ++ notes time place i (drop i (slices_of p))
 
-module _ (p : List ℕ) (sound : check_table Permanent p ≡ Sound) where
+module _ (p : List ℕ) (sound : check_table Permanent p ≡ Ok tt) where
   pub roomy : count_of p ≤ room_of (record_size (stride_of p)) p
   roomy = (sound_table Permanent p sound).roomy
 
@@ -111,10 +112,6 @@ module _ {p : List ℕ} {time : Slice → Instant} {place : ℕ → ℕ} {whole 
     (g : Noting p time place whole from d n i) where
   -- ---- a turn
   module _ (h : i < count_of p) where
-    -- there is room for one more
-    pub noting_room : (n < 512) × (i < 256)
-    noting_room = let m = count_most p g.sound in (omega arith, omega arith)
-
     module _ {t : Instant} (e : t ≡ time (slice_at p i)) where
       here : notes time place i (drop i (slices_of p))
           ≡ cond (given t) (event_of t (place i) ∷ notes time place (i + 1) (drop (i + 1) (slices_of p)))
@@ -127,17 +124,19 @@ module _ {p : List ℕ} {time : Slice → Instant} {place : ℕ → ℕ} {whole 
           → Noting p time place whole from (set d n v) (n + 1) (i + 1)
       noting_one b {v} q = record {
         sound = g.sound;
+        most = g.most;
         low = g.low;
         few = omega arith;
         within = omega arith;
         sized = length-set d n v ∙ g.sized;
-        all = placed whole d _ n v (omega (arith, noting_room.0))
+        all = placed whole d _ n v (omega arith)
             (g.all ∙ ap (λ (l : List ℕ). take n d ++ l) (here ∙ rw (b, q)));
       }
 
       pub noting_none : is_none t ≡ true → Noting p time place whole from d n (i + 1)
       noting_none b = record {
         sound = g.sound;
+        most = g.most;
         low = g.low;
         few = omega arith;
         within = omega arith;
@@ -146,11 +145,8 @@ module _ {p : List ℕ} {time : Slice → Instant} {place : ℕ → ℕ} {whole 
       }
 
   -- ---- where the records that are left give nothing, all is noted
-  pub noting_done : notes time place i (drop i (slices_of p)) ≡ [] → (n ≤ from + 256) × (take n d ≡ whole)
-  noting_done e = (
-    omega (arith, count_most p g.sound),
-    sym (g.all ∙ ap (λ (l : List ℕ). take n d ++ l) e ∙ append-nil (take n d)),
-  )
+  pub noting_done : notes time place i (drop i (slices_of p)) ≡ [] → take n d ≡ whole
+  noting_done e = sym (g.all ∙ ap (λ (l : List ℕ). take n d ++ l) e ∙ append-nil (take n d))
 
-  pub noting_end : count_of p ≤ i → (n ≤ from + 256) × (take n d ≡ whole)
+  pub noting_end : count_of p ≤ i → take n d ≡ whole
   noting_end h = noting_done (ap (notes time place i) (slices_end p i h))

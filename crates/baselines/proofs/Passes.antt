@@ -28,7 +28,7 @@ use Rattle.slice.specs.Record.{baseline, permdelta, parts_of, key_less, same_key
 use Rattle.slice.specs.Record.{view_of, permanent, of_side, record_size}
 use Rattle.slice.specs.declared.record.Life.{Life}
 use Rattle.slice.specs.Rules.{times_of, times_right, content_right}
-use Rattle.slice.specs.declared.check.Checked.TheVariants.{Sound}
+use Rattle.std.specs.Prelude.{Ok}
 use Rattle.slice.proofs.Times.{permdelta_times_lem, baseline_times_lem}
 use Rattle.slice.specs.Check.{check_record}
 use Rattle.slice.proofs.Sound.{record_sound}
@@ -58,13 +58,12 @@ use Rattle.baselines.specs.Laid.{record_for}
 use Rattle.baselines.specs.Deriving.{derived_records, deriving_tests, refused_derivation, derivation_of, derivation_reply}
 use Rattle.baselines.proofs.Noted.{slice_bounded, slices_bounded}
 use Rattle.baselines.proofs.Laid.{Said, Holdable, view_laid, laid_length, parts_of_lem, parts_whole}
-use Rattle.baselines.specs.declared.derivation.Derivation.TheVariants.{Derived}
 
 pub low : (x : ℕ) → x ≤ no_instant → x < 4294967296
 unfolding no_instant
 low x h = omega arith
 
-module _ (p : List ℕ) (bytes : Bytes p) (sound : check_table Permanent p ≡ Sound) where
+module _ (p : List ℕ) (bytes : Bytes p) (sound : check_table Permanent p ≡ Ok tt) where
   abbrev slices : List Slice
   slices = slices_of p
 
@@ -234,7 +233,7 @@ module _ (p : List ℕ) (bytes : Bytes p) (sound : check_table Permanent p ≡ S
       ap (λ (w : List ℕ). take 4 r ++ (w ++ drop 8 r)) (bytes_round n)
 
   -- EACH RECORD PASSES
-  pub derived_passes : (r : List ℕ) → In r (derived_records p) → check_record (stride_of p) permanent r ≡ Sound
+  pub derived_passes : (r : List ℕ) → In r (derived_records p) → check_record (stride_of p) permanent r ≡ Ok tt
   unfolding derived_records derived_baselines
   derived_passes r i =
       let (b, j, e) = map_in (record_for (stride_of p)) (derived_baselines unknown slices) r i in
@@ -254,7 +253,7 @@ module _ (p : List ℕ) (bytes : Bytes p) (sound : check_table Permanent p ≡ S
   derived_long = joined_length (record_size (stride_of p)) (derived_records p) derived_sized
 
 -- ---- the answer
-apart : (n k : ℕ) → refused_derivation k ≡ Derived n → ⊥
+apart : (n k : ℕ) → refused_derivation k ≡ Ok n → ⊥
 apart n k q = true≢false cc
 
 same_number : (k m : ℕ) → refused_derivation k ≡ refused_derivation m → k ≡ m
@@ -267,11 +266,11 @@ unfolding derivation_of permanent_tests table_tests deriving_tests
 never_24 p output bytes e =
     let n = length (derived_records p) in
     let failed =
-    given_number refused_derivation (Derived n) (apart n) same_number 24 (permanent_tests p ++ deriving_tests p output) e in
+    given_number refused_derivation (Ok n) (apart n) same_number 24 (permanent_tests p ++ deriving_tests p output) e in
     let (table, rest) = first_past 24 (permanent_tests p) (deriving_tests p output) refl failed in
     go (tests_sound Permanent p table) rest
   where
-    go : check_table Permanent p ≡ Sound → FirstFails 24 (deriving_tests p output) → ⊥
+    go : check_table Permanent p ≡ Ok tt → FirstFails 24 (deriving_tests p output) → ⊥
     go sound (inl (_, k)) = omega (arith, k)
     go sound (inr (_, inl (y, _))) = contrary y (derived_pass p bytes sound)
     go sound (inr (_, inr (_, inl (_, k)))) = omega (arith, k)

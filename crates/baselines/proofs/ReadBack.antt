@@ -14,8 +14,7 @@ use Rattle.octets.specs.Bytes.{Bytes}
 use Rattle.numbers.specs.Numbers.{no_instant, is_none}
 use Rattle.numbers.specs.declared.Instant.{Instant}
 use Rattle.slice.specs.Record.{permanent, record_size}
-use Rattle.slice.specs.declared.check.Refusal.{Refusal}
-use Rattle.slice.specs.declared.check.Checked.TheVariants.{Sound}
+use Rattle.std.specs.Prelude.{Ok, Err}
 use Rattle.table.specs.Header.{stride_of}
 use Rattle.table.specs.Rules.{fails, check_table}
 use Rattle.table.specs.Deliveries.{holding}
@@ -27,11 +26,9 @@ use Rattle.history.proofs.ReadBack.{read_back_lem, no_two}
 use Rattle.history.proofs.Again.{derived_two, derived_again}
 use Rattle.state.specs.Written.{nil_unknown, property_bytes, state_record}
 use Rattle.state.specs.Asking.{slices_of, permanent_state_of, after_state, record_of, outcome_of, outcome_reply, refused_outcome}
-use Rattle.state.specs.declared.answer.Outcome.TheVariants as outcome
 use Rattle.state.proofs.Stages.{state_left, left_asked}
 use Rattle.baselines.specs.Laid.{record_for}
 use Rattle.baselines.specs.Deriving.{derived_records, derivation_of, after_deriving}
-use Rattle.baselines.specs.declared.derivation.Derivation.TheVariants.{Derived}
 use Rattle.baselines.proofs.Noted.{slices_bounded}
 use Rattle.baselines.proofs.Laid.{filled_by}
 use Rattle.baselines.proofs.Passes.{timely}
@@ -39,12 +36,12 @@ use Rattle.baselines.proofs.DerivedTable.{Deriving, derived_told, told_derived, 
 use Rattle.baselines.proofs.DerivedTable.{derived_slices}
 
 -- what the answer to the question for a state tells of the standing there
-told_refused : (v : Standing) (f : Refusal) → outcome_of v ≡ outcome.Refused f → v ≡ refuses f.number
+told_refused : (v : Standing) (f : ℕ) → outcome_of v ≡ Err f → v ≡ refuses f
 unfolding outcome_reply
-told_refused (refuses n) f e = ap refuses (refusal_tells n f.number (ap outcome_reply e))
-told_refused (known s) f e = absurd (refusal_apart f.number 1 0 (sym (ap outcome_reply e)))
+told_refused (refuses n) f e = ap refuses (refusal_tells n f (ap outcome_reply e))
+told_refused (known s) f e = absurd (refusal_apart f 1 0 (sym (ap outcome_reply e)))
 
-told_written : (v : Standing) → outcome_of v ≡ outcome.Written → (s : State) × (v ≡ known s)
+told_written : (v : Standing) → outcome_of v ≡ Ok tt → (s : State) × (v ≡ known s)
 unfolding outcome_reply
 told_written (refuses n) e = absurd (refusal_apart n 1 0 (ap outcome_reply e))
 told_written (known s) e = (s, refl)
@@ -60,12 +57,12 @@ unfolding is_none
 below t h = ne_eqb t.0 no_instant (λ e. absurd (omega arith))
 
 -- what a sound table answers for the state at an instant, into a record that fits
-answers : (q : List ℕ) → check_table Permanent q ≡ Sound → (t : Instant) → t.0 < no_instant → (buffer : List ℕ)
+answers : (q : List ℕ) → check_table Permanent q ≡ Ok tt → (t : Instant) → t.0 < no_instant → (buffer : List ℕ)
     → length buffer ≡ record_size (stride_of q)
     → permanent_state_of q t buffer ≡ outcome_of (permanent_at t (slices_of q))
 answers q e t h buffer l = sym (left_asked q t buffer (permanent_at t (slices_of q)) (below t h) l ∙ state_left q t buffer e)
 
-module _ (p output : List ℕ) (n : ℕ) (bytes : Bytes p) (e : derivation_of p output ≡ Derived n) where
+module _ (p output : List ℕ) (n : ℕ) (bytes : Bytes p) (e : derivation_of p output ≡ Ok n) where
   abbrev d : Deriving p output n
   d = derived_told p output n e
 
@@ -75,7 +72,7 @@ module _ (p output : List ℕ) (n : ℕ) (bytes : Bytes p) (e : derivation_of p 
   abbrev unknown : List ℕ
   unknown = nil_unknown (stride_of p)
 
-  right : check_table Permanent table ≡ Sound
+  right : check_table Permanent table ≡ Ok tt
   right = derived_sound p output n d bytes
 
   module _ (t : Instant) (h : t.0 < no_instant) where
@@ -84,9 +81,9 @@ module _ (p output : List ℕ) (n : ℕ) (bytes : Bytes p) (e : derivation_of p 
 
     module _ (buffer : List ℕ) (l : length buffer ≡ record_size (stride_of p)) where
       -- the same record wherever there was one
-      pub back_written : permanent_state_of p t buffer ≡ outcome.Written
-          → (permanent_state_of table t buffer ≡ outcome.Written)
-          × (after_state outcome.Written table t buffer ≡ after_state outcome.Written p t buffer)
+      pub back_written : permanent_state_of p t buffer ≡ Ok tt
+          → (permanent_state_of table t buffer ≡ Ok tt)
+          × (after_state (Ok tt) table t buffer ≡ after_state (Ok tt) p t buffer)
       back_written w =
           let (s, k) = told_written (permanent_at t (slices_of p)) (sym (answers p d.table t h buffer l) ∙ w) in
           let same : permanent_at t (slices_of table) ≡ known (as_written unknown s) = back ∙ ap (read_back unknown) k in (
@@ -96,7 +93,7 @@ module _ (p output : List ℕ) (n : ℕ) (bytes : Bytes p) (e : derivation_of p 
           )
 
       -- and 20 elsewhere
-      pub back_refused : (f : Refusal) → permanent_state_of p t buffer ≡ outcome.Refused f
+      pub back_refused : (f : ℕ) → permanent_state_of p t buffer ≡ Err f
           → permanent_state_of table t buffer ≡ refused_outcome 20
       back_refused f w =
           let k = told_refused (permanent_at t (slices_of p)) f (sym (answers p d.table t h buffer l) ∙ w) in
@@ -105,8 +102,7 @@ module _ (p output : List ℕ) (n : ℕ) (bytes : Bytes p) (e : derivation_of p 
       -- 21 nowhere
       pub never_two : permanent_state_of p t buffer ≡ refused_outcome 21 → ⊥
       never_two w =
-          let k = told_refused (permanent_at t (slices_of p)) (record { number = 21 })
-          (sym (answers p d.table t h buffer l) ∙ w) in
+          let k = told_refused (permanent_at t (slices_of p)) 21 (sym (answers p d.table t h buffer l) ∙ w) in
           contrary (ap has_two k) (no_two (slices_of p) (timely p bytes d.table) d.one t h)
 
   -- ---- deriving again
@@ -119,7 +115,7 @@ module _ (p output : List ℕ) (n : ℕ) (bytes : Bytes p) (e : derivation_of p 
       )
 
   pub again : (other : List ℕ) → length other ≡ length output
-      → (derivation_of table other ≡ Derived n) × (after_deriving (Derived n) table other ≡ after_deriving (Derived n) p other)
+      → (derivation_of table other ≡ Ok n) × (after_deriving (Ok n) table other ≡ after_deriving (Ok n) p other)
   again other l =
       let two : two_anchors (slices_of table) ≡ false =
       ap two_anchors (derived_slices p output n d bytes)

@@ -1,10 +1,9 @@
 -- The derived table of a permanent table: refusals in order, and the answer (document 01, "Derived baselines"). Assumes nothing.
-use Rattle.std.specs.Prelude.{ℕ, ◌+◌, ◌||◌, List, [], ◌∷◌, ◌++◌, map, length, ltb}
+use Rattle.std.specs.Prelude.{ℕ, ◌+◌, ◌||◌, List, [], ◌∷◌, ◌++◌, map, length, ltb, Result, Ok, Err}
 use Rattle.laws.specs.Lists.{any, joined}
 use Rattle.laws.specs.Refusals.{Test, test, refuse}
-use Rattle.laws.specs.Replies.{Reply, accepted_as}
+use Rattle.laws.specs.Replies.{Reply, refused_with, accepted_as}
 use Rattle.slice.specs.Record.{permanent}
-use Rattle.slice.specs.Check.{refusal_reply}
 use Rattle.table.specs.Header.{feature_of, stride_of}
 use Rattle.table.specs.Rules.{fails}
 use Rattle.table.specs.Deliveries.{holding}
@@ -12,8 +11,6 @@ use Rattle.history.specs.Derived.{two_anchors, derived_baselines, derivations}
 use Rattle.state.specs.Written.{nil_unknown}
 use Rattle.state.specs.Asking.{slices_of, permanent_tests, asking}
 use Rattle.baselines.specs.Laid.{record_for}
-use Rattle.baselines.specs.declared.derivation.Derivation.{Derivation}
-use Rattle.baselines.specs.declared.derivation.Derivation.TheVariants as derivation
 
 -- the derived baselines of a table, as records
 unfoldable pub derived_records : List ℕ → List (List ℕ)
@@ -28,23 +25,27 @@ deriving_tests p output =
     ∷ test 23 (ltb 256 (length (derived_records p)) || ltb (length output) (32 + length (joined (derived_records p))))
     ∷ []
 
+-- what a derivation returns: how many records, or the number of the refusal
+abbrev pub Derivation : Type 0
+Derivation = Result ℕ ℕ
+
 abbrev pub refused_derivation : ℕ → Derivation
-refused_derivation n = derivation.Refused (record { number = n })
+refused_derivation n = Err n
 
 -- the number of records
 unfoldable pub derivation_of : List ℕ → List ℕ → Derivation
 derivation_of p output =
-    refuse refused_derivation (permanent_tests p ++ deriving_tests p output) (derivation.Derived (length (derived_records p)))
+    refuse refused_derivation (permanent_tests p ++ deriving_tests p output) (Ok (length (derived_records p)))
 
 -- in numbers: derived, 1, and the number of records
 unfoldable pub derivation_reply : Derivation → Reply
-derivation_reply (derivation.Derived n) = accepted_as 1 n
-derivation_reply (derivation.Refused f) = refusal_reply f
+derivation_reply (Ok n) = accepted_as 1 n
+derivation_reply (Err n) = refused_with n
 
 -- the output after an answer: a permanent table of the same feature with its header, and every byte beyond it as it was
 abbrev pub after_deriving : Derivation → List ℕ → List ℕ → List ℕ
-after_deriving (derivation.Derived n) p output = holding output permanent (feature_of p) (derived_records p)
-after_deriving (derivation.Refused f) p output = output
+after_deriving (Ok n) p output = holding output permanent (feature_of p) (derived_records p)
+after_deriving (Err f) p output = output
 
 -- `unfolding deriveds` opens every definition that a derivation computes by
 unfoldable pub deriveds : Unit {0}

@@ -4,7 +4,7 @@ use Rattle.laws.specs.Lists.{joined}
 use Rattle.numbers.specs.Numbers.{before}
 use Rattle.numbers.specs.declared.Instant.{Instant}
 use Rattle.events.specs.Order.{in_order}
-use Rattle.slice.specs.declared.check.Checked.TheVariants.{Sound}
+use Rattle.std.specs.Prelude.{Ok}
 use Rattle.table.specs.Rules.{check_table}
 use Rattle.table.specs.declared.check.Sides.TheVariants.{Permanent}
 use Rattle.history.specs.Derived.{two_anchors, baseline_of}
@@ -16,17 +16,13 @@ use Rattle.baselines.specs.Laid.{record_for}
 use Rattle.baselines.specs.Noting.{noted}
 use Rattle.baselines.specs.Sweeping.{times_of, is_known}
 use Rattle.baselines.specs.Carried.{Lines}
-use Rattle.baselines.specs.Deriving.{derived_records, refused_derivation}
-use Rattle.baselines.specs.declared.derivation.Derivation.{Derivation}
-use Rattle.baselines.specs.declared.derivation.Derivation.TheVariants.{Derived}
+use Rattle.baselines.specs.Deriving.{Derivation, derived_records, refused_derivation}
 use Rattle.baselines.specs.declared.sweeping.Sweep.{Sweep}
-use Rattle.baselines.specs.declared.counting.Counted.{Counted}
-use Rattle.baselines.specs.declared.counting.Counted.TheVariants.{Two, Records}
 
 -- the events of a sound table, in order, where no two anchors meet
 abbrev pub Sweepable : List ℕ → List ℕ → Type 0
 Sweepable p events =
-    (check_table Permanent p ≡ Sound) × (events ≡ in_order (noted (slices_of p))) × (two_anchors (slices_of p) ≡ false)
+    (check_table Permanent p ≡ Ok tt) × (events ≡ in_order (noted (slices_of p))) × (two_anchors (slices_of p) ≡ false)
 
 -- an output holds the derived table
 abbrev pub FitsIn : List ℕ → List ℕ → Type 0
@@ -44,11 +40,11 @@ DrawsKnown stride s t base line n end r =
     → r ≡ drawn_record stride n t end (cond (before t v.end) v.base v.line)
 
 -- all change instants
-unfoldable pub counted_of : List ℕ → Counted
-counted_of p = cond (two_anchors (slices_of p)) Two (Records (length (derived_records p)))
+unfoldable pub counted_of : List ℕ → Derivation
+counted_of p = cond (two_anchors (slices_of p)) (refused_derivation 21) (Ok (length (derived_records p)))
 
 -- the last test: the output does not hold the records
 unfoldable pub handed_of : List ℕ → List ℕ → Derivation
 handed_of p output =
     cond (ltb (length output) (32 + length (joined (derived_records p)))) (refused_derivation 23)
-    (Derived (length (derived_records p)))
+    (Ok (length (derived_records p)))

@@ -2,24 +2,18 @@
 ghost use Rattle.std.specs.Prelude.{◌≡◌, ◌≤◌, length};
 ghost use Rattle.octets.specs.Writing.{pasted};
 ghost use Rattle.slice.specs.Record as Record;
+ghost use Rattle.slice.specs.Refusing.{told};
 ghost use Rattle.table.specs.Header.{header_of};
 ghost use Rattle.baselines.specs.Deriving.{derived_records, derivation_of, derivation_reply, after_deriving};
 ghost use Rattle.baselines.specs.Steps.{Sweepable, handed_of};
 
-use crate::counting::{Counted, count_all};
+use crate::counting::count_all;
 use crate::drawing::draw_all;
 use crate::noting::note;
 use events::sort;
 use octets::{put, put16};
-use slice::{Checked, PERMANENT, Refusal, refusals};
+use slice::{PERMANENT, Refusal};
 use table::{Sides, check_table, record_size};
-
-// What a derivation answers: how many records it has written.
-#[derive(Clone, Copy)]
-pub enum Derivation {
-    Derived(usize),
-    Refused(Refusal),
-}
 
 // Writes the header of a permanent table of a feature, with a count.
 fn put_header(output: &mut [u8], feature: &[u8], count: u16)
@@ -34,18 +28,23 @@ fn put_header(output: &mut [u8], feature: &[u8], count: u16)
 }
 
 // Writes the derived table of a table where the output holds it, or answers 23.
-fn hand_over(permanent: &[u8], events: &[u64], count: usize, output: &mut [u8]) -> Derivation
+fn hand_over(
+    permanent: &[u8],
+    events: &[u64],
+    count: usize,
+    output: &mut [u8],
+) -> Result<usize, Refusal>
     requires sound { Sweepable permanent.now events.now }
     requires few { (count ≤ 256) × (count ≡ length (derived_records permanent.now)) }
-    ensures answer { result ≡ handed_of permanent.now output.old }
-    ensures buffer { output.new ≡ after_deriving result permanent.now output.old }
+    ensures answer { told result ≡ handed_of permanent.now output.old }
+    ensures buffer { output.new ≡ after_deriving (told result) permanent.now output.old }
 {
     if output.len() < 32 + count * record_size(permanent) {
-        return Derivation::Refused(refusals::BUFFER_SIZE);
+        return Err(Refusal::BufferSize);
     }
     put_header(output, &permanent[8..24], count as u16);
     draw_all(permanent, events, output);
-    Derivation::Derived(count)
+    Ok(count)
 }
 
 // Derives the baselines of a permanent table: one BASELINE for each change instant that has a permanent
@@ -53,24 +52,18 @@ fn hand_over(permanent: &[u8], events: &[u64], count: usize, output: &mut [u8]) 
 // every byte as it was: 1 to 7 for the table, 21 for two anchors at a change instant, 23 for over 256
 // records or more than the output holds. No derived record fails the slice check, 24, which is proved and
 // so not looked at.
-pub fn derive(permanent: &[u8], output: &mut [u8]) -> Derivation
-    ensures answer { derivation_reply result ≡ derivation_reply (derivation_of permanent.now output.old) }
-    ensures buffer { output.new ≡ after_deriving result permanent.now output.old }
+pub fn derive(permanent: &[u8], output: &mut [u8]) -> Result<usize, Refusal>
+    ensures answer { derivation_reply (told result) ≡ derivation_reply (derivation_of permanent.now output.old) }
+    ensures buffer { output.new ≡ after_deriving (told result) permanent.now output.old }
 {
-    if let Checked::Refused(refusal) = check_table(permanent, Sides::Permanent) {
-        return Derivation::Refused(refusal);
-    }
-    let mut room = [0u64; 512];
+    check_table(permanent, Sides::Permanent)?;
+    let mut room = [0; 512];
     let n = note(permanent, &mut room);
-    let events = &mut room[0..n];
+    let events = &mut room[..n];
     sort(events);
-    match count_all(permanent, events) {
-        Counted::Two => Derivation::Refused(refusals::TWO_ANCHORS),
-        Counted::Records(count) => {
-            if 256 < count {
-                return Derivation::Refused(refusals::BUFFER_SIZE);
-            }
-            hand_over(permanent, events, count, output)
-        }
+    let count = count_all(permanent, events)?;
+    if 256 < count {
+        return Err(Refusal::BufferSize);
     }
+    hand_over(permanent, events, count, output)
 }

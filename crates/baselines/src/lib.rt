@@ -9,4 +9,4 @@ mod line;
 mod noting;
 mod sweeping;
 
-pub use derivation::{Derivation, derive};
+pub use derivation::derive;

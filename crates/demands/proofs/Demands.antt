@@ -7,6 +7,7 @@ use mathlib.Core.Bool.{true}
 use mathlib.Core.Logic.{◌⊎◌}
 use lib.ListN.{length, take, drop}
 use denote.Ref.{Bor}
+use Rattle.std.specs.Prelude.{Ok, Err}
 use Rattle.laws.specs.Lists.{kept}
 use Rattle.laws.specs.Keyed.{In}
 use Rattle.octets.specs.Bytes.{Bytes}
@@ -14,16 +15,13 @@ use Rattle.numbers.specs.Numbers.{no_instant}
 use Rattle.numbers.specs.declared.Instant.{Instant}
 use Rattle.slice.specs.Record.{permanent, record_size}
 use Rattle.slice.specs.Check.{check_record, check_slice}
-use Rattle.slice.specs.declared.check.Refusal.{Refusal}
-use Rattle.slice.specs.declared.check.Checked.TheVariants.{Sound}
 use Rattle.table.specs.Header.{side_of, count_of, feature_of, stride_of, stride1, room_of, records_of}
 use Rattle.table.specs.Rules.{check_table}
-use Rattle.table.specs.Arriving.{creation_tests, creation_of, creation_reply, created, record_of, arrival_of, arrival_reply, changed}
+use Rattle.table.specs.Arriving.{creation_tests, creation_of, creation_reply, created, record_of, arrival_of, arrival_reply}
+use Rattle.table.specs.Arriving.{changed}
 use Rattle.table.specs.Arriving.{filed, arrived_at}
 use Rattle.table.specs.Deliveries.{Decided, delivered_to, Delivers, Agree, pairs_in, records_afresh, table_afresh, TableOf}
 use Rattle.table.specs.declared.check.Sides.TheVariants.{Permanent, Temporary, Both}
-use Rattle.table.specs.declared.create.Creation.TheVariants as creation
-use Rattle.table.specs.declared.arrival.Arrival.TheVariants as arrival
 use Rattle.table.proofs.Decides.{answers}
 use Rattle.table.proofs.Stays.{still_sound}
 use Rattle.table.proofs.AnyOrder.{of_set, afresh_is, only_afresh}
@@ -32,7 +30,6 @@ use Rattle.state.specs.Asking.{slices_of, misfits, permanent_state_of, snapshot_
 use Rattle.state.specs.Asking.{source_reply, handed, Tells, after_state, after_snapshot, refused_outcome, refused_place}
 use Rattle.state.specs.Touched.{touched_of, touched_reply, AnsweredBy, SameTouched}
 use Rattle.state.specs.Reach.{Reached, SameState, SameSnapshot, SameProperty}
-use Rattle.state.specs.declared.answer.Outcome.TheVariants as outcome
 use Rattle.state.specs.declared.question.Place.TheVariants as place
 use Rattle.state.specs.declared.looking.Touched.TheVariants as touched
 use Rattle.state.proofs.Agrees.{property_agrees, quiet_snapshot}
@@ -41,13 +38,12 @@ use Rattle.state.proofs.Touches as touches
 use Rattle.state.proofs.Reach.{state_changed, permanent_changed, temporary_changed, permanent_property, temporary_property}
 use Rattle.state.proofs.Reach.{touched_changed}
 use Rattle.baselines.specs.Deriving.{derived_records, refused_derivation, derivation_of, derivation_reply, after_deriving}
-use Rattle.baselines.specs.declared.derivation.Derivation.TheVariants as derivation
 use Rattle.baselines.proofs.DerivedTable.{derived_told, derived_sound, derived_feature, derived_counts}
 use Rattle.baselines.proofs.ReadBack.{back_written, back_refused, never_two, again}
 use Rattle.baselines.proofs.Passes as passes
 use Rattle.baselines.proofs.Passes.{derived_passes}
 use Rattle.text.specs.Listing.{listing_of, said_of, put_of, after_put}
-use Rattle.text.specs.declared.listing.Listing.TheVariants.{Needs}
+use Rattle.text.specs.declared.listing.Needs.{Needs}
 use Rattle.demands.specs.Refused.{RefusedBy, arrival_tests, state_tests, snapshot_tests, property_tests, touched_tests}
 use Rattle.demands.specs.Refused.{derived_tests}
 use Rattle.demands.specs.Fourteen.{cases, answer, wanted, fourteen}
@@ -82,51 +78,51 @@ module _ (t s p o output buffer : List ℕ) (side n : ℕ) (at : Instant) where
   derivation_refused = derived_numbered p output
 
 -- ... a refused call changes no byte that it was lent ...
-module _ (f : Refusal) (t s p o output buffer feature : List ℕ) (side : ℕ) (at : Instant) where
-  pub new_table_kept : created (creation.Refused f) t side feature ≡ t
+module _ (f : ℕ) (t s p o output buffer feature : List ℕ) (side : ℕ) (at : Instant) where
+  pub new_table_kept : created (Err f) t side feature ≡ t
   new_table_kept = refl
 
-  pub arrival_kept : arrival_of t s ≡ arrival.Refused f → arrived_at t s ≡ t
+  pub arrival_kept : arrival_of t s ≡ Err f → arrived_at t s ≡ t
   arrival_kept e = ap (λ a. changed a t (filed (record_of s) (records_of (record_size (stride_of t)) t))) e
 
-  pub state_kept : after_state (outcome.Refused f) p at buffer ≡ buffer
+  pub state_kept : after_state (Err f) p at buffer ≡ buffer
   state_kept = refl
 
-  pub snapshot_kept : after_snapshot (outcome.Refused f) p o at buffer ≡ buffer
+  pub snapshot_kept : after_snapshot (Err f) p o at buffer ≡ buffer
   snapshot_kept = refl
 
-  pub derivation_kept : after_deriving (derivation.Refused f) p output ≡ output
+  pub derivation_kept : after_deriving (Err f) p output ≡ output
   derivation_kept = refl
 
 -- ... nor does a listing that does not fit its buffer, of the listing or of what the program says ...
-module _ (input text : List ℕ) (n : ℕ) where
-  pub list_kept : put_of (listing_of input) text ≡ Needs n → after_put (put_of (listing_of input) text) (listing_of input) text ≡ text
+module _ (input text : List ℕ) (n : Needs) where
+  pub list_kept : put_of (listing_of input) text ≡ Err n → after_put (put_of (listing_of input) text) (listing_of input) text ≡ text
   list_kept e = ap (λ a. after_put a (listing_of input) text) e
 
-  pub say_kept : put_of (said_of input) text ≡ Needs n → after_put (put_of (said_of input) text) (said_of input) text ≡ text
+  pub say_kept : put_of (said_of input) text ≡ Err n → after_put (put_of (said_of input) text) (said_of input) text ≡ text
   say_kept e = ap (λ a. after_put a (said_of input) text) e
 
 -- ... and the part that the property question hands back has length 0 where it is refused, and where nothing mentions the property
 module _ (p o : Bor (List ℕ)) where
-  pub refused_empty : (f : Refusal) → length (handed (place.Refused f) p o).1 ≡ 0
+  pub refused_empty : (f : ℕ) → length (handed (Err f) p o).1 ≡ 0
   refused_empty f = refl
 
-  pub unmentioned_empty : length (handed place.Unmentioned p o).1 ≡ 0
+  pub unmentioned_empty : length (handed (Ok place.Unmentioned) p o).1 ≡ 0
   unmentioned_empty = refl
 
 -- ==== DEMAND 2. The stored table: where a table and a slice pass their checks, one rule decides which answer the delivery gets;
 -- and a table that passes its check passes it after any arrival
 module _ (t s : List ℕ) where
-  pub stored_table : check_table Both t ≡ Sound → check_slice (stride_of t) (feature_of t) (side_of t) s ≡ Sound
+  pub stored_table : check_table Both t ≡ Ok tt → check_slice (stride_of t) (feature_of t) (side_of t) s ≡ Ok tt
       → Decided (room_of (record_size (stride_of t)) t) (record_of s) (records_of (record_size (stride_of t)) t) (arrival_of t s)
   stored_table = answers t s
 
-  pub stays_sound : check_table Both t ≡ Sound → check_table Both (arrived_at t s) ≡ Sound
+  pub stays_sound : check_table Both t ≡ Ok tt → check_table Both (arrived_at t s) ≡ Ok tt
   stays_sound = still_sound Both t s
 
 -- The snapshot and the value of one property: where a snapshot is written, its property n is what the question hands back ...
 module _ (p o : List ℕ) (at : Instant) (buffer : List ℕ) where
-  pub property_value : snapshot_of p o at buffer ≡ outcome.Written → (n : ℕ) → n < 8
+  pub property_value : snapshot_of p o at buffer ≡ Ok tt → (n : ℕ) → n < 8
       → Tells p o (take (stride_of p) (drop (32 + n * stride_of p) (after_snapshot (snapshot_of p o at buffer) p o at buffer)))
       (place_of p o at n)
   property_value e n h = property_agrees p o at buffer e n h
@@ -142,7 +138,7 @@ module _ (p o : List ℕ) (at : Instant) (buffer : List ℕ) where
     alike_refused = snapshot_refused_too p o at n h buffer k
 
   -- ... and where no TEMPDELTA is valid the snapshot is the permanent state
-  pub quiet : check_table Temporary o ≡ Sound → feature_of p ≡ feature_of o → kept (valid at) (slices_of o) ≡ []
+  pub quiet : check_table Temporary o ≡ Ok tt → feature_of p ≡ feature_of o → kept (valid at) (slices_of o) ≡ []
       → (snapshot_of p o at buffer ≡ permanent_state_of p at buffer)
       × (after_snapshot (snapshot_of p o at buffer) p o at buffer ≡ after_state (permanent_state_of p at buffer) p at buffer)
   quiet = quiet_snapshot p o at buffer
@@ -154,29 +150,29 @@ module _ (p o : List ℕ) (at : Instant) (n : ℕ) where
   touched_agrees = touches.touched_agrees p o at n
 
   -- ... and the part that the question then hands back lies in the record at which `looked` records were looked at, from the end
-  pub touched_part : (k looked : ℕ) → place_of p o at n ≡ place.Temporary k → touched_of o at n ≡ touched.Yes looked
+  pub touched_part : (k looked : ℕ) → place_of p o at n ≡ Ok (place.Temporary k) → touched_of o at n ≡ Ok (touched.Yes looked)
       → k ≡ 32 + (count_of o - looked) * record_size (stride_of o) + 32 + n * stride_of o
   touched_part = touches.touched_part p o at n
 
 -- Derived baselines. Of a table that passes 1 to 7 each derived record passes the slice check, so no derivation gives 24 ...
 module _ (p : List ℕ) (bytes : Bytes p) where
-  pub each_passes : check_table Permanent p ≡ Sound → (r : List ℕ) → In r (derived_records p)
-      → check_record (stride_of p) permanent r ≡ Sound
+  pub each_passes : check_table Permanent p ≡ Ok tt → (r : List ℕ) → In r (derived_records p)
+      → check_record (stride_of p) permanent r ≡ Ok tt
   each_passes = derived_passes p bytes
 
   pub never_24 : (output : List ℕ) → derivation_of p output ≡ refused_derivation 24 → ⊥
   never_24 output = passes.never_24 p output bytes
 
 -- ... and where it is not refused: p are the bytes of a permanent table, of which n baselines are derived into the output
-module _ (p output : List ℕ) (n : ℕ) (bytes : Bytes p) (e : derivation_of p output ≡ derivation.Derived n) where
+module _ (p output : List ℕ) (n : ℕ) (bytes : Bytes p) (e : derivation_of p output ≡ Ok n) where
   abbrev derived : List ℕ
-  derived = after_deriving (derivation.Derived n) p output
+  derived = after_deriving (Ok n) p output
 
   -- n is the number of records defined; the derived table passes 1 to 7, names the same feature, and counts n
   pub number_defined : n ≡ length (derived_records p)
   number_defined = (derived_told p output n e).number
 
-  pub table_sound : check_table Permanent derived ≡ Sound
+  pub table_sound : check_table Permanent derived ≡ Ok tt
   table_sound = derived_sound p output n (derived_told p output n e) bytes
 
   pub same_feature : feature_of derived ≡ feature_of p
@@ -188,13 +184,13 @@ module _ (p output : List ℕ) (n : ℕ) (bytes : Bytes p) (e : derivation_of p 
   -- read back alone, at every instant up to the last, into any record of the right size
   module _ (t : Instant) (h : t.0 < no_instant) (buffer : List ℕ) (fits : length buffer ≡ record_size (stride_of p)) where
     -- the same record wherever the original answers one
-    pub same_record : permanent_state_of p t buffer ≡ outcome.Written
-        → (permanent_state_of derived t buffer ≡ outcome.Written)
-        × (after_state outcome.Written derived t buffer ≡ after_state outcome.Written p t buffer)
+    pub same_record : permanent_state_of p t buffer ≡ Ok tt
+        → (permanent_state_of derived t buffer ≡ Ok tt)
+        × (after_state (Ok tt) derived t buffer ≡ after_state (Ok tt) p t buffer)
     same_record = back_written p output n bytes e t h buffer fits
 
     -- 20 wherever it does not
-    pub no_state_elsewhere : (f : Refusal) → permanent_state_of p t buffer ≡ outcome.Refused f
+    pub no_state_elsewhere : (f : ℕ) → permanent_state_of p t buffer ≡ Err f
         → permanent_state_of derived t buffer ≡ refused_outcome 20
     no_state_elsewhere = back_refused p output n bytes e t h buffer fits
 
@@ -204,16 +200,16 @@ module _ (p output : List ℕ) (n : ℕ) (bytes : Bytes p) (e : derivation_of p 
 
   -- deriving again, into any output of the same length, gives the same answer and what the original gives there
   pub same_again : (other : List ℕ) → length other ≡ length output
-      → (derivation_of derived other ≡ derivation.Derived n)
-      × (after_deriving (derivation.Derived n) derived other ≡ after_deriving (derivation.Derived n) p other)
+      → (derivation_of derived other ≡ Ok n)
+      × (after_deriving (Ok n) derived other ≡ after_deriving (Ok n) p other)
   same_again = again p output n bytes e
 
 -- ==== DEMAND 3. A new table in a buffer, for a feature of 16 bytes; and a set of slices whose records agree, and whose kinds and
 -- sequences fit the room
 module _ (buffer : List ℕ) (side : ℕ) (feature : List ℕ) (named : length feature ≡ 16)
-    (made : creation_of buffer side ≡ creation.Made) where
+    (made : creation_of buffer side ≡ Ok tt) where
   abbrev fed : List (List ℕ) → List ℕ
-  fed ss = delivered_to (created creation.Made buffer side feature) ss
+  fed ss = delivered_to (created (Ok tt) buffer side feature) ss
 
   module _ (set : List (List ℕ)) (agree : Agree (map record_of set))
       (fit : pairs_in (map record_of set) ≤ room_of (record_size stride1) buffer) where

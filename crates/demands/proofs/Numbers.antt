@@ -5,6 +5,7 @@ use mathlib.Core.List.{List, [], ◌++◌}
 use mathlib.Core.Bool.{Bool, true, false, cond}
 use mathlib.Core.Option.{Option, none, some}
 use lib.ListN.{length}
+use Rattle.std.specs.Prelude.{Ok}
 use Rattle.laws.specs.Lists.{any}
 use Rattle.laws.specs.Refusals.{Test, refuse}
 use Rattle.laws.specs.Replies.{Reply, refused_with, accepted_as}
@@ -17,10 +18,10 @@ use Rattle.slice.specs.Record.{record_size, correction_of, Slice}
 use Rattle.slice.specs.Check.{slice_tests}
 use Rattle.table.specs.Header.{side_of, feature_of, stride_of, room_of, records_of}
 use Rattle.table.specs.Rules.{table_tests}
-use Rattle.table.specs.Arriving.{creation_refused, creation_tests, creation_of, creation_reply, refused_arrival, record_of, stored_of}
-use Rattle.table.specs.Arriving.{accepted_of, filing_tests, filing_of, arrival_of, arrival_reply}
+use Rattle.table.specs.Arriving.{creation_refused, creation_tests, creation_of, creation_reply, refused_arrival, record_of}
+use Rattle.table.specs.Arriving.{stored_of}
+use Rattle.table.specs.Arriving.{Arrived, accepted_of, filing_tests, filing_of, arrival_of, arrival_reply}
 use Rattle.table.specs.declared.check.Sides.TheVariants.{Both}
-use Rattle.table.specs.declared.create.Creation.TheVariants as creation
 use Rattle.table.specs.declared.arrival.Arrival.TheVariants as arrival
 use Rattle.history.specs.State.{State}
 use Rattle.history.specs.Permanent.{Standing, refuses, known, permanent_at}
@@ -28,14 +29,13 @@ use Rattle.history.specs.Snapshot.{passing, overlaid, snapshot_at}
 use Rattle.history.specs.Source.{line, last_mention}
 use Rattle.history.specs.Touched.{touches}
 use Rattle.state.specs.Asking.{slices_of, permanent_tests, both_tests, writing_tests, asking_tests, refused_outcome, outcome_of}
-use Rattle.state.specs.Asking.{outcome_reply, permanent_state_of, snapshot_of, refused_place, placed, place_at, place_of, place_reply}
-use Rattle.state.specs.Asking.{source_of, source_reply}
-use Rattle.state.specs.Touched.{refused_touched, touched_by, touched_of, touched_reply}
-use Rattle.state.specs.declared.question.Place.{Place}
+use Rattle.state.specs.Asking.{outcome_reply, permanent_state_of, snapshot_of, refused_place, placed, place_at, place_of}
+use Rattle.state.specs.Asking.{place_reply}
+use Rattle.state.specs.Asking.{Located, source_of, source_reply}
+use Rattle.state.specs.Touched.{Looked, refused_touched, touched_by, touched_of, touched_reply}
 use Rattle.state.specs.declared.question.Place.TheVariants as place
 use Rattle.state.specs.declared.looking.Touched.TheVariants as touched
 use Rattle.baselines.specs.Deriving.{derived_records, refused_derivation, derivation_of, derivation_reply}
-use Rattle.baselines.specs.declared.derivation.Derivation.TheVariants as derivation
 use Rattle.demands.specs.Refused.{RefusedBy, arrival_tests, standing_tests, state_tests, snapshot_tests, property_tests}
 use Rattle.demands.specs.Refused.{touched_tests, derived_tests}
 use Rattle.demands.proofs.Standing.{answered, standing_tests_lem}
@@ -57,10 +57,10 @@ pub creation_numbered : (t : List ℕ) (side : ℕ) → RefusedBy (creation_test
 unfolding creation_of creation_reply
 creation_numbered t side =
     by_tests (creation_tests t side) (accepted_as 1 0) _ tt
-    (refuse_map creation_reply creation_refused refused_with (λ n. refl) (creation_tests t side) creation.Made)
+    (refuse_map creation_reply creation_refused refused_with (λ n. refl) (creation_tests t side) (Ok tt))
 
 -- ---- an arrival
-either : (b c : Bool) → Accepted (arrival_reply (cond b arrival.Replaced (cond c arrival.Superseded arrival.Repeat)))
+either : (b c : Bool) → Accepted (arrival_reply (cond {A = Arrived} b (Ok arrival.Replaced) (cond c (Ok arrival.Superseded) (Ok arrival.Repeat))))
 unfolding arrival_reply
 either true c = tt
 either false true = tt
@@ -130,15 +130,15 @@ module _ (p : List ℕ) (at : Instant) (buffer : List ℕ) where
       ∙ ap (refuse refused_with tests) (overlaid_answered (passing at (slices_of t)) (permanent_at at (slices_of p))))
 
 -- ---- one property: where it is, and which table it is from
-module _ (p t : List ℕ) (at : Instant) (n : ℕ) (reply : Place → Reply) (own : (k : ℕ) → reply (refused_place k) ≡ refused_with k)
-    (permanent : (k : ℕ) → Accepted (reply (place.Permanent k))) (temporary : (k : ℕ) → Accepted (reply (place.Temporary k)))
-    (nowhere : Accepted (reply place.Unmentioned)) where
+module _ (p t : List ℕ) (at : Instant) (n : ℕ) (reply : Located → Reply) (own : (k : ℕ) → reply (refused_place k) ≡ refused_with k)
+    (permanent : (k : ℕ) → Accepted (reply (Ok (place.Permanent k)))) (temporary : (k : ℕ) → Accepted (reply (Ok (place.Temporary k))))
+    (nowhere : Accepted (reply (Ok place.Unmentioned))) where
   accepted_place_lem : (u v : Option Slice) → Accepted (reply (placed p t n u v))
   accepted_place_lem (some d) v = temporary _
   accepted_place_lem none (some d) = permanent _
   accepted_place_lem none none = nowhere
 
-  abbrev found : Place
+  abbrev found : Located
   found = placed p t n (last_mention n (passing at (slices_of t))) (last_mention n (line at (slices_of p)))
 
   place_answered : (v : Standing) → reply (place_at p t at n v) ≡ answered refused_with (λ s. reply found) v
@@ -164,7 +164,7 @@ module _ (p t : List ℕ) (at : Instant) (n : ℕ) where
   source_numbered = asked_numbered p t at n (λ a. source_reply (source_of a)) (λ k. refl) (λ k. tt) (λ k. tt) tt
 
 -- ---- whether anything temporary touches it
-accepted_touched_lem : (b : Bool) (k : ℕ) → Accepted (touched_reply (cond b (touched.Yes k) (touched.No k)))
+accepted_touched_lem : (b : Bool) (k : ℕ) → Accepted (touched_reply (cond {A = Looked} b (Ok (touched.Yes k)) (Ok (touched.No k))))
 unfolding touched_reply
 accepted_touched_lem true k = tt
 accepted_touched_lem false k = tt
@@ -182,4 +182,4 @@ unfolding derivation_of derivation_reply
 derived_numbered p output =
     by_tests (derived_tests p output) (accepted_as 1 (length (derived_records p))) _ tt
     (refuse_map derivation_reply refused_derivation refused_with (λ n. refl) (derived_tests p output)
-    (derivation.Derived (length (derived_records p))))
+    (Ok (length (derived_records p))))

@@ -1,19 +1,14 @@
 -- The fourteen examples of document 01, 11 as document 02 (Q-2) has it, computed from bytes: one table, one claim. Property 0 holds a
 -- code, the rest are nil.
 -- Assumes nothing.
-use Rattle.std.specs.Prelude.{ℕ, ◌+◌, ◌*◌, ◌≡◌, refl, List, [], ◌∷◌, ◌++◌, map, take, drop, replicate}
+use Rattle.std.specs.Prelude.{ℕ, ◌+◌, ◌*◌, ◌≡◌, refl, List, [], ◌∷◌, ◌++◌, map, take, drop, replicate, Ok, Err}
 use Rattle.octets.specs.Writing.{bytes_of}
 use Rattle.numbers.specs.declared.Instant.{Instant}
 use Rattle.slice.specs.Record.{baseline, permdelta, tempdelta, permanent, temporary}
-use Rattle.table.specs.Arriving.{created, refused_arrival, arrival_of, arriving}
+use Rattle.table.specs.Arriving.{created, Arrived, refused_arrival, arrival_of, arriving}
 use Rattle.table.specs.Deliveries.{delivered_to}
-use Rattle.table.specs.declared.create.Creation.TheVariants.{Made}
-use Rattle.table.specs.declared.arrival.Arrival.{Arrival}
 use Rattle.table.specs.declared.arrival.Arrival.TheVariants.{Superseded, Repeat}
-use Rattle.state.specs.Asking.{snapshot_of, after_snapshot, place_of, asking}
-use Rattle.state.specs.declared.answer.Outcome.{Outcome}
-use Rattle.state.specs.declared.answer.Outcome.TheVariants.{Written, Refused}
-use Rattle.state.specs.declared.question.Place.{Place}
+use Rattle.state.specs.Asking.{Outcome, snapshot_of, after_snapshot, Located, place_of, asking}
 use Rattle.state.specs.declared.question.Place.TheVariants.{Unmentioned}
 
 -- ---- slices in delivery
@@ -80,22 +75,22 @@ at t = snapshot 0 t
 pub data Answer : Type 0 where
   refuses : ℕ → Answer
   shows : List ℕ → Answer
-  stands : Place → Answer
-  answers : Arrival → Answer
+  stands : Located → Answer
+  answers : Arrived → Answer
 
 abbrev gives : ℕ → Answer
 gives v = shows (code v)
 
 -- each table is sent every slice, and refuses those of the other side
 abbrev table : ℕ → List (List ℕ) → List ℕ
-table side ss = delivered_to (created Made (replicate 704 0) side feature) ss
+table side ss = delivered_to (created (Ok tt) (replicate 704 0) side feature) ss
 
 abbrev lent : List ℕ
 lent = replicate 224 0
 
 abbrev shown : ℕ → List ℕ → List ℕ → Instant → Outcome → Answer
-shown n p t i (Refused f) = refuses f.number
-shown n p t i Written = shows (take 24 (drop (32 + n * 24) (after_snapshot Written p t i lent)))
+shown n p t i (Err f) = refuses f
+shown n p t i (Ok _) = shows (take 24 (drop (32 + n * 24) (after_snapshot (Ok tt) p t i lent)))
 
 abbrev snapped : ℕ → List ℕ → List ℕ → Instant → Answer
 snapped n p t i = shown n p t i (snapshot_of p t i lent)
@@ -137,13 +132,13 @@ wanted =
     ∷ (gives 1 ∷ [])  -- 5
     ∷ (gives 5 ∷ gives 6 ∷ gives 6 ∷ gives 1 ∷ [])  -- 6
     ∷ (gives 1 ∷ gives 5 ∷ [])  -- 7
-    ∷ (answers Superseded ∷ [])  -- 8
-    ∷ (answers Repeat ∷ [])  -- 9
+    ∷ (answers (Ok Superseded) ∷ [])  -- 8
+    ∷ (answers (Ok Repeat) ∷ [])  -- 9
     ∷ (answers (refused_arrival 17) ∷ [])  -- 9, again
     ∷ (gives 8 ∷ [])  -- 10
     ∷ (gives 1 ∷ gives 2 ∷ [])  -- 11
     ∷ (gives 1 ∷ refuses 22 ∷ [])  -- 12
-    ∷ (gives 3 ∷ stands Unmentioned ∷ shows unknown ∷ [])  -- 13
+    ∷ (gives 3 ∷ stands (Ok Unmentioned) ∷ shows unknown ∷ [])  -- 13
     ∷ (shows unknown ∷ [])  -- 14
     ∷ []
 

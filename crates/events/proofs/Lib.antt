@@ -11,5 +11,7 @@ pub mod Parts
 pub mod Passes
 -- two halves, each put in order where it stands, and joined
 pub mod Halves
+-- whether events rise, and how many fall, told by each and the next
+pub mod Rising
 -- one turn of each loop
 pub mod Steps

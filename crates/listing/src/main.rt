@@ -2,34 +2,23 @@
 // output. Where a read or a write fails, the program ends with that error.
 #![tactic(auto)]
 
-ghost use Rattle.std.specs.Prelude.{◌≤◌, length, IfOk};
-
 use std::io::{Read, Result, Write};
-use text::{Listing, say};
+use text::say;
 
-// Reads until buf is full or the input ends, and answers how many bytes it put at the start of buf.
-fn read_full<R: Read>(reader: &mut R, buf: &mut [u8]) -> Result<usize>
-    ensures { IfOk result (λ n. n ≤ length buf.new) }
-{
-    let mut done = 0;
-    while done < buf.len() {
-        let n = reader.read(&mut buf[done..])?;
-        if n == 0 {
-            break;
-        }
-        done += n;
-    }
-    Ok(done)
-}
+// How many bytes of the input are read: one more than a table has is enough to tell that it is too long.
+const INPUT: u64 = 57_377;
 
-// One byte more than a table has is enough to tell that the input is too long, and 10,771 bytes hold
-// every listing.
+// How many bytes hold every listing.
+const LISTING: usize = 10_771;
+
+// Writes what is said of standard input.
 fn main(rt: HostRuntime) -> Result<()> {
-    let mut input = [0u8; 57377];
-    let got = read_full(&mut rt.stdin(), &mut input)?;
-    let mut text = [0u8; 10771];
-    if let Listing::Text(length) = say(&input[..got], &mut text) {
-        Write::write_all(&mut rt.stdout(), &text[..length])?;
+    let mut input = Vec::new(rt.alloc());
+    rt.stdin().take(INPUT).read_to_end(&mut input)?;
+    let mut text = vec![in rt.alloc(); 0; LISTING]?;
+    if let Ok(length) = say(&input, &mut text) {
+        text.truncate(length);
+        rt.stdout().write_all(&text)?;
     }
     Ok(())
 }

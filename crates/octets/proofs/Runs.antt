@@ -8,6 +8,7 @@ use native.Mathlib.Omega.{arith}
 use lib.ListN.{length, drop, length-drop}
 use lib.Seq.{ext_get_or, get_or-drop}
 use lib.Dec.{leb, ltb, eqb}
+use lib.Pointwise.{pointwise, bytes_decides}
 use borrow.Author.Tests.{le-leb, eq-eqb, leb-true, eqb-true, eqb-false}
 use Rattle.laws.proofs.Tests.{tests, iff, by-test, and_both}
 use Rattle.octets.specs.Bytes.{byte_of, Bytes, digits, each, there, be_of, le_of, filled, same_bytes}
@@ -203,6 +204,11 @@ unfolding same_bytes
 bytes_same a b e =
     rw (← e, eq-eqb (length a) (length a) refl)
     (each_all (λ i. eqb (byte_of a i) (byte_of a i)) (length a) 0 (λ i l. eq-eqb (byte_of a (0 + i)) (byte_of a (0 + i)) refl))
+
+-- and so are bytes that are equal pair by pair
+pub pairs_same : (a b : List ℕ) → pointwise eqb a b ≡ same_bytes a b
+pairs_same a b =
+    iff _ _ (λ e. bytes_same a b ((bytes_decides a b).0 e)) (λ e. (bytes_decides a b).1 (same_bytes_lem a b e))
 
 -- ---- runs of a part
 -- the n places from k + at on, of a list that starts at k

@@ -2,20 +2,24 @@
 use Prim.Native.Nat.{ℕ, zero, suc, ◌+◌, ◌*◌, ◌/◌, ◌%◌, ◌≤◌, ◌<◌}
 use mathlib.Core.Path.{◌≡◌, refl, sym, ap, ◌∙◌, subst}
 use mathlib.Core.List.{List, [], ◌∷◌, ◌++◌}
-use mathlib.Core.Bool.{true}
+use mathlib.Core.Bool.{true, false}
 use mathlib.Core.Logic.{inl, inr}
 use native.Mathlib.Omega.{arith}
 use lib.ListN.{length, take, drop, replicate, length-drop, take-append-drop}
 use lib.Seq.{drop-drop, get_or-drop}
+use Rattle.std.proofs.lemmas.List.{get_or-replicate}
+use lib.Pointwise.{pointwise, bytes_decides}
 use lib.Dec.{eqb}
-use borrow.Author.Tests.{eqb-true}
+use borrow.Author.Tests.{eqb-true, eq-eqb, le-leb, lt-leb}
+use Rattle.std.specs.Prelude.{Option, Some, None}
+use Rattle.std.specs.Option.{option_eq}
 use Rattle.laws.specs.Lists.{pieces}
 use Rattle.laws.specs.Keyed.{In}
-use Rattle.laws.proofs.Tests.{and_both}
+use Rattle.laws.proofs.Tests.{and_both, iff}
 use Rattle.octets.specs.Bytes.{byte_of, digits, each, there, be_of, filled, Bytes}
 use Rattle.octets.specs.Writing.{bytes_of}
-use Rattle.octets.proofs.Runs.{each_at}
-use Rattle.octets.proofs.Readers.{be_whole}
+use Rattle.octets.proofs.Runs.{each_at, each_all, filled_short}
+use Rattle.octets.proofs.Readers.{be_whole, Found, taken}
 
 -- ---- parts of a list of bytes
 bytes_take : (n : ℕ) (l : List ℕ) → Bytes l → Bytes (take n l)
@@ -58,17 +62,36 @@ number_bytes r at h k =
     four_bytes (drop at r) (bytes_drop at r h) (simp length-drop (omega arith))
     ∙ ap (bytes_of 4) ((λ i. (((0 * 256 + g 0 i) * 256 + g 1 i) * 256 + g 2 i) * 256 + g 3 i) ∙ sym (be_whole 4 r at k))
 
-zeros_run : (n : ℕ) (l : List ℕ) → n ≤ length l → ((i : ℕ) → i < n → byte_of l i ≡ 0) → take n l ≡ replicate n 0
-zeros_run zero l k h = refl
-zeros_run (suc n) [] k h = absurd (omega arith)
-zeros_run (suc n) (x ∷ l) k h = λ i. h 0 (omega arith) i ∷ zeros_run n l (omega arith) (λ j m. h (suc j) (omega arith)) i
+run_of : (v n : ℕ) (l : List ℕ) → n ≤ length l → ((i : ℕ) → i < n → byte_of l i ≡ v) → take n l ≡ replicate n v
+run_of v zero l k h = refl
+run_of v (suc n) [] k h = absurd (omega arith)
+run_of v (suc n) (x ∷ l) k h = λ i. h 0 (omega arith) i ∷ run_of v n l (omega arith) (λ j m. h (suc j) (omega arith)) i
+
+full_bytes : (v : ℕ) (r : List ℕ) (n at : ℕ) → filled v n r at ≡ true → at + n ≤ length r → take n (drop at r) ≡ replicate n v
+unfolding filled
+full_bytes v r n at e k =
+    let y = (and_both (there n r at) (each (λ i. eqb (byte_of r i) v) n at) e).1 in
+    run_of v n (drop at r) (simp length-drop (omega arith))
+    (λ i h. get_or-drop at r i 0 ∙ eqb-true (byte_of r (at + i)) v (each_at (λ i. eqb (byte_of r i) v) n at y i h))
 
 pub zero_bytes : (r : List ℕ) (n at : ℕ) → filled 0 n r at ≡ true → at + n ≤ length r → take n (drop at r) ≡ replicate n 0
+zero_bytes = full_bytes 0
+
+bytes_full : (v : ℕ) (r : List ℕ) (n at : ℕ) → at + n ≤ length r → take n (drop at r) ≡ replicate n v → filled v n r at ≡ true
 unfolding filled
-zero_bytes r n at e k =
-    let y = (and_both (there n r at) (each (λ i. eqb (byte_of r i) 0) n at) e).1 in
-    zeros_run n (drop at r) (simp length-drop (omega arith))
-    (λ i h. get_or-drop at r i 0 ∙ eqb-true (byte_of r (at + i)) 0 (each_at (λ i. eqb (byte_of r i) 0) n at y i h))
+bytes_full v r n at k e =
+    rw (le-leb _ _ k) (each_all (λ i. eqb (byte_of r i) v) n at
+    (λ i l. eq-eqb (byte_of r (at + i)) v
+    (sym (taken n r at i l) ∙ ap (λ (x : List ℕ). byte_of x i) e ∙ get_or-replicate n i v 0 l)))
+
+-- n bytes that were looked up are compared with v
+pub run_found : (v n : ℕ) (r : List ℕ) (at : ℕ) (o : Option (List ℕ)) → Found n r at o
+    → option_eq (pointwise eqb) o (Some (replicate n v)) ≡ filled v n r at
+run_found v n r at None h = filled_short v n r at false (sym (lt-leb _ _ h)) refl
+run_found v n r at (Some a) h =
+    iff _ _
+    (λ e. bytes_full v r n at h.0 (sym h.1 ∙ (bytes_decides a (replicate n v)).0 e))
+    (λ e. (bytes_decides a (replicate n v)).1 (h.1 ∙ full_bytes v r n at e h.0))
 
 -- a run in front of what is behind it
 pub cut : (n at : ℕ) (r x : List ℕ) → take n (drop at r) ≡ x → drop at r ≡ x ++ drop (at + n) r

@@ -10,6 +10,7 @@ use lib.ListN.{length, take, drop, length-take, length-drop}
 use lib.Seq.{take-take, get_or-take, drop-drop}
 use lib.Dec.{ltb}
 use borrow.Author.Tests.{ltb-true, ltb-false}
+use Rattle.std.specs.Prelude.{Some, None, Result, Ok, Err}
 use Rattle.laws.specs.Lists.{pieces, any, count, first}
 use Rattle.laws.proofs.Pieces.{pieces_on}
 use Rattle.laws.proofs.Tests.{and_both, pick_ind}
@@ -19,21 +20,23 @@ use Rattle.property.specs.Layout.{decode_of}
 use Rattle.property.specs.Eight.{properties_of, whole_in, value_of, is_broken, is_good, breaks, mentioned, survey_of}
 use Rattle.property.specs.declared.Value.{Value}
 use Rattle.property.specs.declared.Value.TheVariants.{Unmentioned}
-use Rattle.property.specs.declared.Decoded.TheVariants.{Good, Broken}
-use Rattle.property.specs.declared.Survey.{Survey}
-use Rattle.property.specs.declared.Survey.TheVariants.{FirstBad, Mentions}
+use Rattle.property.specs.declared.FirstBad.{FirstBad}
 use Rattle.property.proofs.Forms.{decode_numbers, decode_sized}
 use Rattle.property.proofs.Sound.{is_good_lem}
 
+-- the first that breaks the layout is at a place
+abbrev pub bad_at : ℕ → Result ℕ FirstBad
+bad_at i = Err (record { 0 = i })
+
 -- what is found from property i on, m being mentioned before it
-abbrev pub found_from : ℕ → ℕ → List (List ℕ) → Survey
-found_from i m ps = cond (any breaks ps) (FirstBad (i + first breaks ps)) (Mentions (m + count mentioned ps))
+abbrev pub found_from : ℕ → ℕ → List (List ℕ) → Result ℕ FirstBad
+found_from i m ps = cond (any breaks ps) (bad_at (i + first breaks ps)) (Ok (m + count mentioned ps))
 
 pub found_start : (stride : ℕ) (bytes : List ℕ) → survey_of stride bytes ≡ found_from 0 0 (pieces stride 8 bytes)
 unfolding survey_of properties_of
 found_start stride bytes = rw (zero-add (first breaks (pieces stride 8 bytes)), zero-add (count mentioned (pieces stride 8 bytes)))
 
-found_bad : (i m : ℕ) (p : List ℕ) (ps : List (List ℕ)) → breaks p ≡ true → found_from i m (p ∷ ps) ≡ FirstBad i
+found_bad : (i m : ℕ) (p : List ℕ) (ps : List (List ℕ)) → breaks p ≡ true → found_from i m (p ∷ ps) ≡ bad_at i
 found_bad i m p ps h = rw (h, add-zero)
 
 found_on : (i m : ℕ) (p : List ℕ) (ps : List (List ℕ)) → breaks p ≡ false
@@ -41,13 +44,13 @@ found_on : (i m : ℕ) (p : List ℕ) (ps : List (List ℕ)) → breaks p ≡ fa
 found_on i m p ps h =
     let e : i + suc (first breaks ps) ≡ i + 1 + first breaks ps = omega arith in
     let f : m + (cond (mentioned p) 1 0 + count mentioned ps) ≡ m + cond (mentioned p) 1 0 + count mentioned ps = omega arith in
-    rw h (ap (λ (x : Survey × Survey). cond (any breaks ps) x.0 x.1) (λ k. (FirstBad (e k), Mentions (f k))))
+    rw h (ap (λ (x : Result ℕ FirstBad × Result ℕ FirstBad). cond (any breaks ps) x.0 x.1) (λ k. (bad_at (e k), Ok (f k))))
 
-pub found_end : (i m : ℕ) → found_from i m [] ≡ Mentions m
+pub found_end : (i m : ℕ) → found_from i m [] ≡ Ok m
 found_end i m = rw add-zero
 
 -- a property is mentioned where its value is a mention
-pub mentioned_is : (p : List ℕ) (v : Value) → value_of p ≡ Good v → mentioned p ≡ is_mention v
+pub mentioned_is : (p : List ℕ) (v : Value) → value_of p ≡ Some v → mentioned p ≡ is_mention v
 unfolding mentioned
 mentioned_is p v e = ap mentions (sym (get_or-take 24 p 0 0 (omega arith)) ∙ (decode_numbers (take 24 p) v e).0)
 
@@ -58,16 +61,16 @@ breaks_less p h = ap is_broken (decode_sized (take 24 p) (λ e. omega (arith, si
 
 -- ---- property i at the front of what is left, m being mentioned before it
 module _ (stride i m : ℕ) (l : List ℕ) (h : i < 8) where
-  pub turn_bad : breaks (take stride l) ≡ true → found_from i m (pieces stride (8 - i) l) ≡ FirstBad i
+  pub turn_bad : breaks (take stride l) ≡ true → found_from i m (pieces stride (8 - i) l) ≡ bad_at i
   turn_bad b = rw (pieces_on stride 8 i l h) (found_bad i m (take stride l) (pieces stride (8 - (i + 1)) (drop stride l)) b)
 
   -- it is not all there
-  pub turn_less_lem : length l < 24 → found_from i m (pieces stride (8 - i) l) ≡ FirstBad i
+  pub turn_less_lem : length l < 24 → found_from i m (pieces stride (8 - i) l) ≡ bad_at i
   turn_less_lem s = turn_bad (breaks_less (take stride l) (simp length-take (omega arith)))
 
   module _ (wide : 24 ≤ stride) where
     -- it breaks the layout
-    pub turn_broken : decode_of (take 24 l) ≡ Broken → found_from i m (pieces stride (8 - i) l) ≡ FirstBad i
+    pub turn_broken : decode_of (take 24 l) ≡ None → found_from i m (pieces stride (8 - i) l) ≡ bad_at i
     unfolding breaks
     turn_broken e = turn_bad (rw (take-take 24 stride l wide, e))
 
@@ -88,11 +91,11 @@ module _ (stride i m : ℕ) (l : List ℕ) (h : i < 8) where
         turn_on true (ap (λ (p : List ℕ). is_broken (decode_of p)) part ∙ is_good_lem (decode_of (take 24 l)) q.0)
         (ap mentions (sym (get_or-take 24 (take stride l) 0 0 (omega arith)) ∙ ap (λ (p : List ℕ). byte_of p 0) part) ∙ q.1)
 
-    pub turn_silent : decode_of (take 24 l) ≡ Good Unmentioned
+    pub turn_silent : decode_of (take 24 l) ≡ Some Unmentioned
         → found_from i m (pieces stride (8 - i) l) ≡ found_from (i + 1) m (pieces stride (8 - (i + 1)) (drop stride l))
     unfolding breaks
     turn_silent e =
-        let value : value_of (take stride l) ≡ Good Unmentioned = ap decode_of (take-take 24 stride l wide) ∙ e in
+        let value : value_of (take stride l) ≡ Some Unmentioned = ap decode_of (take-take 24 stride l wide) ∙ e in
         turn_on false (ap is_broken value) (mentioned_is (take stride l) Unmentioned value)
         ∙ ap (λ (n : ℕ). found_from (i + 1) n (pieces stride (8 - (i + 1)) (drop stride l))) (add-zero m)
 
@@ -147,13 +150,13 @@ module _ (len stride : ℕ) where
 pub turn_short : (stride m : ℕ) (bytes : List ℕ) → whole_in (length bytes) stride < 8
     → found_from (whole_in (length bytes) stride) m
     (pieces stride (8 - whole_in (length bytes) stride) (drop (whole_in (length bytes) stride * stride) bytes))
-    ≡ FirstBad (whole_in (length bytes) stride)
+    ≡ bad_at (whole_in (length bytes) stride)
 turn_short stride m bytes l = go (whole_short (length bytes) stride l)
   where
     go : stride ≤ 23 ⊎ length bytes - whole_in (length bytes) stride * stride ≤ 23
         → found_from (whole_in (length bytes) stride) m
         (pieces stride (8 - whole_in (length bytes) stride) (drop (whole_in (length bytes) stride * stride) bytes))
-        ≡ FirstBad (whole_in (length bytes) stride)
+        ≡ bad_at (whole_in (length bytes) stride)
     go (inl a) =
         turn_bad stride (whole_in (length bytes) stride) m (drop (whole_in (length bytes) stride * stride) bytes) l
         (breaks_less _ (simp length-take (omega arith)))
@@ -168,20 +171,20 @@ next_place stride i bytes =
     drop-drop stride (i * stride) bytes ∙ ap (λ (k : ℕ). drop k bytes) e
 
 -- ---- what an answer of the check tells
-bad : (b : Bool) (i m j : ℕ) → cond b (FirstBad i) (Mentions m) ≡ FirstBad j → b ≡ true
-bad true i m j e = refl
-bad false i m j e = cc
+bad : (b : Bool) (d e : FirstBad) (m : ℕ) → cond b (Err d) (Ok m) ≡ Err e → b ≡ true
+bad true d e m h = refl
+bad false d e m h = cc
 
-sound : (b : Bool) (i m n : ℕ) → cond b (FirstBad i) (Mentions m) ≡ Mentions n → (b ≡ false) × (n ≡ m)
-sound true i m n e = (cc, cc)
-sound false i m n e = (refl, cc)
+sound : (b : Bool) (d : FirstBad) (m n : ℕ) → cond b (Err d) (Ok m) ≡ Ok n → (b ≡ false) × (n ≡ m)
+sound true d m n h = (cc, cc)
+sound false d m n h = (refl, cc)
 
-pub survey_bad : (stride : ℕ) (bytes : List ℕ) (i : ℕ) → survey_of stride bytes ≡ FirstBad i
+pub survey_bad : (stride : ℕ) (bytes : List ℕ) (e : FirstBad) → survey_of stride bytes ≡ Err e
     → any breaks (properties_of stride bytes) ≡ true
 unfolding survey_of
-survey_bad stride bytes i e = bad _ _ _ i e
+survey_bad stride bytes e h = bad _ _ e _ h
 
-pub survey_sound : (stride : ℕ) (bytes : List ℕ) (n : ℕ) → survey_of stride bytes ≡ Mentions n
+pub survey_sound : (stride : ℕ) (bytes : List ℕ) (n : ℕ) → survey_of stride bytes ≡ Ok n
     → (any breaks (properties_of stride bytes) ≡ false) × (n ≡ count mentioned (properties_of stride bytes))
 unfolding survey_of
-survey_sound stride bytes n e = sound _ _ _ n e
+survey_sound stride bytes n h = sound _ _ _ n h

@@ -1,5 +1,5 @@
 -- A row asks of the bytes what its limits ask of the three numbers that they make, whatever the row. Assumes nothing.
-use Prim.Native.Nat.{ℕ, zero, suc, ◌+◌, ◌*◌, ◌-◌, ◌^◌, ◌/◌, ◌≤◌, ◌<◌}
+use Prim.Native.Nat.{ℕ, zero, suc, ◌+◌, ◌*◌, ◌-◌, ◌^◌, ◌/◌, ◌%◌, ◌≤◌, ◌<◌}
 use mathlib.Core.Path.{◌≡◌, refl, sym, ◌∙◌, ap}
 use mathlib.Core.List.{List}
 use mathlib.Core.Bool.{Bool, true, ◌&&◌, and_assoc}
@@ -23,6 +23,18 @@ up_to x k h = iff _ _ (λ e. omega tests) (λ e. omega tests)
 
 some_most : (k : ℕ) → 0 < 256 ^ k
 some_most k = omega (arith, digits_below (λ _. 0) (λ _. omega arith) k 0)
+
+-- the greatest number by a shift, of 64 bits
+pub most_shifted : (n : ℕ) → n < 8 → 1 * 2 ^ (8 * n) % 2 ^ 64 - 1 ≡ most_of n
+most_shifted zero l = refl
+most_shifted (suc zero) l = refl
+most_shifted (suc (suc zero)) l = refl
+most_shifted (suc (suc (suc zero))) l = refl
+most_shifted (suc (suc (suc (suc zero)))) l = refl
+most_shifted (suc (suc (suc (suc (suc zero))))) l = refl
+most_shifted (suc (suc (suc (suc (suc (suc zero)))))) l = refl
+most_shifted (suc (suc (suc (suc (suc (suc (suc zero))))))) l = refl
+most_shifted (suc (suc (suc (suc (suc (suc (suc (suc n)))))))) l = absurd (omega arith)
 
 most_up_to_8 : (k : ℕ) → k ≤ 8 → most_of k ≡ 256 ^ k - 1
 most_up_to_8 k h =

@@ -6,8 +6,9 @@ use mathlib.Core.Bool.{Bool, true, false, ◌&&◌, and_assoc, and-true}
 use native.Mathlib.Omega.{arith}
 use lib.ListN.{length}
 use lib.Dec.{eqb, leb, ltb}
-use lib.Ieee.{Float, binary64, of_bits, of_int, neg, le}
+use lib.Ieee.{Float}
 use borrow.Author.Tests.{not-false, eqb-true, eq-eqb, ne_eqb, le-leb, lt-leb, ltb-true, ltb-false}
+use Rattle.std.specs.Prelude.{Option, Some, None}
 use Rattle.laws.proofs.Tests.{tests, iff, by-test, contrary, and_both}
 use Rattle.octets.specs.Bytes.{byte_of, Bytes, be_of, le_of, filled}
 use Rattle.octets.proofs.Readers.{be_whole, digits_below}
@@ -21,39 +22,26 @@ use Rattle.property.specs.Limits.{limits_for, fits_of, reading_of}
 use Rattle.property.specs.Eight.{is_good, is_broken}
 use Rattle.property.specs.declared.Value.{Value}
 use Rattle.property.specs.declared.Value.TheVariants.{Unmentioned, Code, Number, Length, Point}
-use Rattle.property.specs.declared.Decoded.{Decoded}
-use Rattle.property.specs.declared.Decoded.TheVariants.{Good, Broken}
 use Rattle.property.proofs.Rows.{form_fits}
 
--- each limit is one value, by its bits in the code and by its number in the definition
-pub ninety : (x : Float) → (le (neg (of_bits binary64 0x4056_8000_0000_0000)) x && le x (of_bits binary64 0x4056_8000_0000_0000))
-    ≡ degrees 90 x
-unfolding of_bits of_int
-ninety x = refl
-
-pub one_eighty : (x : Float)
-    → (le (neg (of_bits binary64 0x4066_8000_0000_0000)) x && le x (of_bits binary64 0x4066_8000_0000_0000)) ≡ degrees 180 x
-unfolding of_bits of_int
-one_eighty x = refl
-
 -- ---- tests and values
-only_only : (a b : Bool) (x : Decoded) → only a (only b x) ≡ only (a && b) x
+only_only : (a b : Bool) (x : Option Value) → only a (only b x) ≡ only (a && b) x
 unfolding only
 only_only true b x = refl
 only_only false b x = refl
 
-pub good_only : (b : Bool) (v : Value) → is_good (only b (Good v)) ≡ b
+pub good_only : (b : Bool) (v : Value) → is_good (only b (Some v)) ≡ b
 unfolding only
 good_only true v = refl
 good_only false v = refl
 
-good_both : (b : Bool) (d : Decoded) → is_good (only b d) ≡ (b && is_good d)
+good_both : (b : Bool) (d : Option Value) → is_good (only b d) ≡ (b && is_good d)
 unfolding only
 good_both true d = refl
 good_both false d = refl
 
 -- ---- a detail chooses a value
-nil_above : (d : ℕ) → 5 < d → with_detail d nils ≡ only (leb 1 d && leb d 5) (Good (nil_at d))
+nil_above : (d : ℕ) → 5 < d → with_detail d nils ≡ only (leb 1 d && leb d 5) (Some (nil_at d))
 unfolding only
 nil_above d h =
     rw (
@@ -66,7 +54,7 @@ nil_above d h =
       lt-leb d 5 h,
     )
 
-nil_chosen : (d : ℕ) → with_detail d nils ≡ only (leb 1 d && leb d 5) (Good (nil_at d))
+nil_chosen : (d : ℕ) → with_detail d nils ≡ only (leb 1 d && leb d 5) (Some (nil_at d))
 unfolding only
 nil_chosen zero = refl
 nil_chosen (suc zero) = refl
@@ -76,7 +64,7 @@ nil_chosen (suc (suc (suc (suc zero)))) = refl
 nil_chosen (suc (suc (suc (suc (suc zero))))) = refl
 nil_chosen (suc (suc (suc (suc (suc (suc d)))))) = nil_above (suc (suc (suc (suc (suc (suc d)))))) (omega arith)
 
-unit_above : (x : Float) (d : ℕ) → 4 < d → with_detail d (in_units x) ≡ only (leb 1 d && leb d 4) (Good (Length x (unit_at d)))
+unit_above : (x : Float) (d : ℕ) → 4 < d → with_detail d (in_units x) ≡ only (leb 1 d && leb d 4) (Some (Length x (unit_at d)))
 unfolding only
 unit_above x d h =
     rw (
@@ -88,7 +76,7 @@ unit_above x d h =
       lt-leb d 4 h,
     )
 
-unit_chosen : (x : Float) (d : ℕ) → with_detail d (in_units x) ≡ only (leb 1 d && leb d 4) (Good (Length x (unit_at d)))
+unit_chosen : (x : Float) (d : ℕ) → with_detail d (in_units x) ≡ only (leb 1 d && leb d 4) (Some (Length x (unit_at d)))
 unfolding only
 unit_chosen x zero = refl
 unit_chosen x (suc zero) = refl
@@ -117,20 +105,20 @@ and_comm true false = refl
 and_comm false true = refl
 and_comm false false = refl
 
-join : (u a : Bool) (v : Value) (s : Bool) → s ≡ (u && a) → only u (only a (Good v)) ≡ only s (Good v)
-join u a v s e = only_only u a (Good v) ∙ ap (λ (b : Bool). only b (Good v)) (sym e)
+join : (u a : Bool) (v : Value) (s : Bool) → s ≡ (u && a) → only u (only a (Some v)) ≡ only s (Some v)
+join u a v s e = only_only u a (Some v) ∙ ap (λ (b : Bool). only b (Some v)) (sym e)
 
-join_if : (u a w : Bool) (v : Value) (s : Bool) → s ≡ (u && (a && true)) → only u (only (a && w) (Good v)) ≡ only (s && w) (Good v)
+join_if : (u a w : Bool) (v : Value) (s : Bool) → s ≡ (u && (a && true)) → only u (only (a && w) (Some v)) ≡ only (s && w) (Some v)
 join_if u a w v s e = join u (a && w) v (s && w) (rw (e, and-true a) (and_assoc u a w))
 
-chosen : (u z g : Bool) (x : Decoded) (v : Value) (s : Bool) → x ≡ only g (Good v) → s ≡ (u && (g && z)) → only u (only z x)
-    ≡ only s (Good v)
-chosen u z g x v s e f = rw (e, only_only z g (Good v)) (join u (z && g) v s (f ∙ ap (λ (b : Bool). u && b) (and_comm g z)))
+chosen : (u z g : Bool) (x : Option Value) (v : Value) (s : Bool) → x ≡ only g (Some v) → s ≡ (u && (g && z)) → only u (only z x)
+    ≡ only s (Some v)
+chosen u z g x v s e f = rw (e, only_only z g (Some v)) (join u (z && g) v s (f ∙ ap (λ (b : Bool). u && b) (and_comm g z)))
 
-chosen_if : (u z g w : Bool) (x : Decoded) (v : Value) (s : Bool) → x ≡ only g (Good v) → s ≡ (u && (g && z))
-    → only u (only (w && z) x) ≡ only (s && w) (Good v)
+chosen_if : (u z g w : Bool) (x : Option Value) (v : Value) (s : Bool) → x ≡ only g (Some v) → s ≡ (u && (g && z))
+    → only u (only (w && z) x) ≡ only (s && w) (Some v)
 chosen_if u z g w x v s e f =
-    rw (e, only_only (w && z) g (Good v)) (join u ((w && z) && g) v (s && w) (rw f (sym (shuffle u g z w))))
+    rw (e, only_only (w && z) g (Some v)) (join u ((w && z) && g) v (s && w) (rw f (sym (shuffle u g z w))))
 
 right_nil : (d : ℕ) → right_of (nil_at d) ≡ true
 right_nil d =
@@ -150,7 +138,7 @@ module _ (p : List ℕ) (h : length p ≡ 24) where
   sound = keeps (row_for (byte_of p 0)) p && right_of (held_of p)
 
   abbrev Told : Type 0
-  Told = decode_of p ≡ only sound (Good (held_of p))
+  Told = decode_of p ≡ only sound (Some (held_of p))
 
   -- a row that leaves the detail unused
   plain : (rest : Bool) → (u && ((leb 0 d && leb d 0) && rest)) ≡ (u && (eqb d 0 && rest))
@@ -213,7 +201,7 @@ module _ (p : List ℕ) (h : length p ≡ 24) where
       go (suc (suc (suc (suc (suc (suc f)))))) e = absurd (omega arith)
 
 -- or none
-pub no_form : (p : List ℕ) → 6 ≤ byte_of p 0 → decode_of p ≡ Broken
+pub no_form : (p : List ℕ) → 6 ≤ byte_of p 0 → decode_of p ≡ None
 unfolding decode_of form_reading only
 no_form p l =
     rw (
@@ -235,13 +223,13 @@ by_table_lem p =
     (λ e. rw e (unfold only in unfold decode_of in rw e))
 
 -- a reading that is no value
-pub not_good : (d : Decoded) → is_good d ≡ false → d ≡ Broken
-not_good (Good v) e = contrary refl e
-not_good Broken e = refl
+pub not_good : (d : Option Value) → is_good d ≡ false → d ≡ None
+not_good (Some v) e = contrary refl e
+not_good None e = refl
 
-pub is_good_lem : (d : Decoded) → is_good d ≡ true → is_broken d ≡ false
-is_good_lem (Good v) e = refl
-is_good_lem Broken e = sym e
+pub is_good_lem : (d : Option Value) → is_good d ≡ true → is_broken d ≡ false
+is_good_lem (Some v) e = refl
+is_good_lem None e = sym e
 
 -- ---- what the row and the value tell
 module _ (p : List ℕ) (bytes : Bytes p) (h : length p ≡ 24) (l : byte_of p 0 < 6) where
@@ -259,9 +247,15 @@ module _ (p : List ℕ) (bytes : Bytes p) (h : length p ≡ 24) (l : byte_of p 0
   pub sound_no : Fits ≡ false → false ≡ is_good (decode_of p)
   sound_no e = sym (good_is ∙ rw e)
 
-  pub decode_good : is_good (decode_of p) ≡ true → Good (held_of p) ≡ decode_of p
-  unfolding only
-  decode_good e = let s = sym (ap is_good (told p h l) ∙ good_only (sound p h) (held_of p)) ∙ e in sym (told p h l ∙ rw s)
+-- a value that was read is the one that the bytes hold
+only_good : (b : Bool) (v : Value) → is_good (only b (Some v)) ≡ true → Some v ≡ only b (Some v)
+unfolding only
+only_good true v e = refl
+only_good false v e = cc
+
+pub decode_good : (p : List ℕ) → is_good (decode_of p) ≡ true → Some (held_of p) ≡ decode_of p
+unfolding by_table
+decode_good p e = only_good _ (held_of p) (ap is_good (by_table_lem p) ∙ e) ∙ by_table_lem p
 
 -- the content as numbers of eight bytes holds the value
 module _ (p : List ℕ) (bytes : Bytes p) (h : length p ≡ 24) where
@@ -291,7 +285,7 @@ module _ (p : List ℕ) (h : length p ≡ 24) where
   unfolding filled
   two x y = rw (le-leb (0 + 2) (length p) (omega (arith, h)), x, y)
 
-  pub blank_told : (filled 0 8 p 0 && filled 0 16 p 8) ≡ true → decode_of p ≡ Good Unmentioned
+  pub blank_told : (filled 0 8 p 0 && filled 0 16 p 8) ≡ true → decode_of p ≡ Some Unmentioned
   unfolding decode_of form_reading unmentioned_of only
   blank_told e =
       let q = and_both (filled 0 8 p 0) (filled 0 16 p 8) e in
@@ -303,7 +297,7 @@ module _ (p : List ℕ) (h : length p ≡ 24) where
   unfolding decode_of form_reading unmentioned_of
   silent_told e s =
       let f : eqb (byte_of p 0) 0 ≡ true = not-false (eqb (byte_of p 0) 0) s in
-      let g = and_both (unused 2 7 p) (is_good (only (eqb (byte_of p 1) 0 && unused 8 23 p) (Good Unmentioned)))
+      let g = and_both (unused 2 7 p) (is_good (only (eqb (byte_of p 1) 0 && unused 8 23 p) (Some Unmentioned)))
       (sym (good_both (unused 2 7 p) _) ∙ rw (eq-eqb (length p) 24 h, f) at e) in
       let k = and_both (eqb (byte_of p 1) 0) (unused 8 23 p)
       (sym (good_only (eqb (byte_of p 1) 0 && unused 8 23 p) Unmentioned) ∙ g.1) in

@@ -1,6 +1,6 @@
 -- The forms of a property, one row a form, and the value that its bytes hold (document 01, "Table and record layout").
 -- Assumes nothing.
-use Rattle.std.specs.Prelude.{ℕ, ◌+◌, List, [], ◌∷◌, Bool, true, cond, ◌&&◌, length, get_or, eqb, leb, ltb}
+use Rattle.std.specs.Prelude.{ℕ, ◌+◌, List, [], ◌∷◌, Bool, true, cond, ◌&&◌, length, get_or, eqb, leb, ltb, Option, Some}
 use Rattle.octets.specs.Bytes.{byte_of, be_of}
 use Rattle.property.specs.Layout.{detail_of, unused, signed, double_at, finite, degrees, only, layout}
 use Rattle.property.specs.declared.Row.{Row}
@@ -10,8 +10,6 @@ use Rattle.property.specs.declared.LengthUnit.TheVariants.{M, FT, KM, NM}
 use Rattle.property.specs.declared.Value.{Value}
 use Rattle.property.specs.declared.Value.TheVariants.{Unmentioned, Inapplicable, Missing, Template, Unknown, Withheld, Code}
 use Rattle.property.specs.declared.Value.TheVariants.{Number, Length, Point}
-use Rattle.property.specs.declared.Decoded.{Decoded}
-use Rattle.property.specs.declared.Decoded.TheVariants.{Good}
 
 -- ---- the table
 abbrev row : ℕ → ℕ → ℕ → Row
@@ -68,9 +66,10 @@ right_of (Length x u) = finite x
 right_of (Point q) = in_range q
 
 -- ---- the value of 24 bytes by the table; it is that of Layout (proofs/Sound.antt, `by_table_lem`)
-unfoldable pub by_table : List ℕ → Decoded
+unfoldable pub by_table : List ℕ → Option Value
 by_table p =
-    only (eqb (length p) 24 && (ltb (byte_of p 0) 6 && (keeps (row_for (byte_of p 0)) p && right_of (held_of p)))) (Good (held_of p))
+    only (eqb (length p) 24 && (ltb (byte_of p 0) 6 && (keeps (row_for (byte_of p 0)) p && right_of (held_of p))))
+    (Some (held_of p))
 
 -- `unfolding forms` opens every definition of this file, and those of the layout
 unfoldable pub forms : Unit {0}

@@ -16,7 +16,7 @@ use crate::double::{double, is_finite, within};
 use octets::{be64, blank8, byte, le64};
 
 // The unit of a length.
-#[derive(Clone, Copy)]
+#[derive(Clone, Copy, Debug, PartialEq, Eq)]
 pub enum LengthUnit {
     M,
     FT,
@@ -25,14 +25,14 @@ pub enum LengthUnit {
 }
 
 // A point, in degrees.
-#[derive(Clone, Copy)]
+#[derive(Clone, Copy, Debug, PartialEq)]
 pub struct Position {
     pub latitude: f64,
     pub longitude: f64,
 }
 
 // What a property says.
-#[derive(Clone, Copy)]
+#[derive(Clone, Copy, Debug, PartialEq)]
 pub enum Value {
     // The record does not mention the property.
     Unmentioned,
@@ -48,20 +48,9 @@ pub enum Value {
     Point(Position),
 }
 
-// A value, or that the bytes break the layout.
-#[derive(Clone, Copy)]
-pub enum Decoded {
-    Good(Value),
-    Broken,
-}
-
-// What the check of a record's eight properties finds: the place of the first that breaks the layout,
-// or, where none does, how many are mentioned.
-#[derive(Clone, Copy)]
-pub enum Survey {
-    FirstBad(usize),
-    Mentions(usize),
-}
+// The place of the first property that breaks the layout.
+#[derive(Clone, Copy, Debug, PartialEq, Eq)]
+pub struct FirstBad(pub usize);
 
 // What a form may use: the least and the greatest detail, and how many content bytes.
 #[derive(Clone, Copy)]
@@ -88,38 +77,23 @@ pub struct Limits {
 }
 
 // The greatest number of n bytes, and of 8 where n is more.
+#[tactic(auto, using(crate::proofs::Rows::most_shifted))]
 fn most(n: u8) -> u64
     ensures { result ≡ most_of n }
 {
-    match n {
-        0 => 0,
-        1 => 0xff,
-        2 => 0xffff,
-        3 => 0xff_ffff,
-        4 => 0xffff_ffff,
-        5 => 0xff_ffff_ffff,
-        6 => 0xffff_ffff_ffff,
-        7 => 0xff_ffff_ffff_ffff,
-        _ => 0xffff_ffff_ffff_ffff,
-    }
-}
-
-// How many of n bytes are past the eighth.
-fn later(n: u8) -> u8
-    ensures { result ≡ later_of n }
-{
-    if n < 8 { 0 } else { n - 8 }
+    if n < 8 { (1 << (8 * n)) - 1 } else { u64::MAX }
 }
 
 // The limits of a row.
 fn limits_of(row: Row) -> Limits
     ensures { result ≡ limits_of row }
 {
+    let Row(least, greatest, used) = row;
     Limits {
-        least: row.0 as u64,
-        greatest: row.1 as u64,
-        first: most(row.2),
-        second: most(later(row.2)),
+        least: u64::from(least),
+        greatest: u64::from(greatest),
+        first: most(used),
+        second: most(used.saturating_sub(8)),
     }
 }
 
@@ -127,18 +101,12 @@ fn limits_of(row: Row) -> Limits
 fn all_limits() -> [Limits; 6]
     ensures { result ≡ all_limits }
 {
-    [
-        limits_of(FORMS[0]),
-        limits_of(FORMS[1]),
-        limits_of(FORMS[2]),
-        limits_of(FORMS[3]),
-        limits_of(FORMS[4]),
-        limits_of(FORMS[5]),
-    ]
+    FORMS.map(limits_of)
 }
 
 // Whether three numbers of eight bytes keep limits. The first is form, detail and six bytes that are
 // to be zero.
+#[tactic(auto, unfolding(crate::specs::Limits::fits_of))]
 fn fits(l: Limits, head: u64, first: u64, second: u64) -> bool
     ensures { result ≡ fits_of l head first second }
 {
@@ -171,19 +139,9 @@ fn unit_of(detail: u8) -> LengthUnit
     }
 }
 
-// 32 bits in two's complement.
-fn signed_of(n: u32) -> i32
-    ensures { result ≡ signed n }
-{
-    if n < 2147483648 {
-        n as i32
-    } else {
-        -1 - ((4294967295 - n) as i32)
-    }
-}
-
 // The value of a form and a detail, and of the content as two numbers. What the layout asks is not
 // looked at.
+#[tactic(auto, using(crate::proofs::Doubles::signed_cast), unfolding(crate::specs::Limits::reading_of))]
 fn reading(form: u8, detail: u8, first: u64, second: u64) -> Value
     ensures { result ≡ reading_of form detail first second }
 {
@@ -191,7 +149,7 @@ fn reading(form: u8, detail: u8, first: u64, second: u64) -> Value
         0 => Value::Unmentioned,
         1 => nil_of(detail),
         2 => Value::Code((first / 0x1_0000_0000_0000) as u16),
-        3 => Value::Number(signed_of((first / 0x1_0000_0000) as u32)),
+        3 => Value::Number(((first / 0x1_0000_0000) as u32).cast_signed()),
         4 => Value::Length(double(first), unit_of(detail)),
         _ => Value::Point(Position {
             latitude: double(first),
@@ -201,6 +159,7 @@ fn reading(form: u8, detail: u8, first: u64, second: u64) -> Value
 }
 
 // The value that the 24 bytes of a property hold, whether or not they keep the layout.
+#[tactic(auto, using(crate::proofs::Sound::held_told))]
 fn held(p: &[u8]) -> Value
     requires { length p.now ≡ 24 }
     ensures { result ≡ held_of p.now }
@@ -209,6 +168,7 @@ fn held(p: &[u8]) -> Value
 }
 
 // Whether a latitude is from -90 to 90 and a longitude from -180 to 180.
+#[tactic(auto, using(crate::proofs::Doubles::ninety, crate::proofs::Doubles::one_eighty))]
 fn in_range(at: Position) -> bool
     ensures { result ≡ in_range at }
 {
@@ -220,46 +180,32 @@ fn is_right(v: Value) -> bool
     ensures { result ≡ right_of v }
 {
     match v {
-        Value::Unmentioned => true,
-        Value::Inapplicable => true,
-        Value::Missing => true,
-        Value::Template => true,
-        Value::Unknown => true,
-        Value::Withheld => true,
-        Value::Code(_) => true,
-        Value::Number(_) => true,
         Value::Length(x, _) => is_finite(x),
         Value::Point(at) => in_range(at),
+        _ => true,
     }
 }
 
-// Whether the 24 bytes of a property keep the layout, by the limits of its form's row.
-fn is_sound(l: Limits, p: &[u8]) -> bool
-    requires { (byte_of p.now 0 < 6) × ((l ≡ limits_for (byte_of p.now 0)) × (length p.now ≡ 24)) }
+// Whether the 24 bytes of a property keep the layout, by the limits of the forms.
+fn is_sound(limits: &[Limits; 6], p: &[u8]) -> bool
+    requires of_rows { limits.now ≡ all_limits }
+    requires whole { length p.now ≡ 24 }
     ensures { result ≡ is_good (decode_of p.now) }
 {
-    if fits(l, le64(p, 0), le64(p, 8), le64(p, 16)) {
-        is_right(held(p))
-    } else {
-        false
-    }
+    let Some(limits) = limits.get(byte(p, 0) as usize) else {
+        return false;
+    };
+    fits(*limits, le64(p, 0), le64(p, 8), le64(p, 16)) && is_right(held(p))
 }
 
-// The value of the 24 bytes of a property. Bytes of any other number break the layout.
-pub fn decode(p: &[u8]) -> Decoded
+// The value of the 24 bytes of a property, or none where the bytes break the layout or are not 24.
+pub fn decode(p: &[u8]) -> Option<Value>
     ensures { result ≡ decode_of p.now }
 {
-    if p.len() != 24 {
-        return Decoded::Broken;
-    }
-    let form = byte(p, 0) as usize;
-    if 6 <= form {
-        return Decoded::Broken;
-    }
-    if is_sound(limits_of(FORMS[form]), p) {
-        Decoded::Good(held(p))
+    if p.len() == 24 && is_sound(&all_limits(), p) {
+        Some(held(p))
     } else {
-        Decoded::Broken
+        None
     }
 }
 
@@ -267,18 +213,7 @@ pub fn decode(p: &[u8]) -> Decoded
 pub fn is_mention(v: Value) -> bool
     ensures { result ≡ is_mention v }
 {
-    match v {
-        Value::Unmentioned => false,
-        Value::Inapplicable => true,
-        Value::Missing => true,
-        Value::Template => true,
-        Value::Unknown => true,
-        Value::Withheld => true,
-        Value::Code(_) => true,
-        Value::Number(_) => true,
-        Value::Length(_, _) => true,
-        Value::Point(_) => true,
-    }
+    !matches!(v, Value::Unmentioned)
 }
 
 // Whether the 24 bytes of a property are all zero, so that it is not mentioned.
@@ -292,42 +227,31 @@ fn is_blank(p: &[u8]) -> bool
 fn whole_in(len: usize, stride: usize) -> usize
     ensures { result ≡ whole_in len stride }
 {
-    if stride < 24 {
+    if stride < 24 || len < 24 {
         return 0;
     }
-    if len < 24 {
-        return 0;
-    }
-    let more = (len - 24) / stride;
-    if more < 7 { more + 1 } else { 8 }
+    ((len - 24) / stride + 1).min(8)
 }
 
-// What the check of eight properties of `stride` bytes each finds. A property that is not all there
-// breaks the layout.
-pub fn check_eight(bytes: &[u8], stride: usize) -> Survey
+// How many of eight properties of `stride` bytes each are mentioned, or the first that breaks the layout. A property
+// that is not all there breaks it.
+pub fn check_eight(bytes: &[u8], stride: usize) -> Result<usize, FirstBad>
     ensures { result ≡ survey_of stride bytes.now }
 {
     let whole = whole_in(bytes.len(), stride);
     let limits = all_limits();
     let mut mentioned = 0;
-    let mut i = 0;
-    while i < whole {
-        let at = i * stride;
-        let end = at + 24;
-        if !is_blank(&bytes[at..end]) {
-            let form = byte(&bytes[at..end], 0) as usize;
-            if 6 <= form {
-                return Survey::FirstBad(i);
-            }
-            if !is_sound(limits[form], &bytes[at..end]) {
-                return Survey::FirstBad(i);
+    for i in 0..whole {
+        let p = &bytes[i * stride..i * stride + 24];
+        if !is_blank(p) {
+            if !is_sound(&limits, p) {
+                return Err(FirstBad(i));
             }
             mentioned += 1;
         }
-        i += 1;
     }
     if whole < 8 {
-        return Survey::FirstBad(whole);
+        return Err(FirstBad(whole));
     }
-    Survey::Mentions(mentioned)
+    Ok(mentioned)
 }

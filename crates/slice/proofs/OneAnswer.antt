@@ -2,9 +2,11 @@
 use mathlib.Core.Path.{refl}
 use Rattle.laws.specs.OneAnswer.{OneAnswer}
 use Rattle.laws.proofs.OneAnswer.{same}
-use Rattle.slice.proofs.Replies.{checked_told}
+use Rattle.slice.proofs.Replies.{checked_told, reviewed_tells}
 use Rattle.slice.proofs.check.number_of.Kinds as number-of-k
 use Rattle.slice.proofs.check.number_of.Reads as number_of
+use Rattle.slice.proofs.refusal.Refusal.number.Kinds as Refusal-number-k
+use Rattle.slice.proofs.refusal.Refusal.number.Reads as Refusal-number
 use Rattle.slice.proofs.check.check_record.Kinds as check-record-k
 use Rattle.slice.proofs.check.check_record.Reads as check-record
 use Rattle.slice.proofs.check.check_records.Kinds as check-records-k
@@ -35,11 +37,14 @@ use Rattle.slice.proofs.rules.content_right.Reads as content-right
 pub number_of_one : OneAnswer number-of-k.ps number-of-k.r number_of.Asked number_of.Learnt
 number_of_one κs a = (tt, λ z z' ws ws' p q. (same p q, refl))
 
+pub Refusal-number_one : OneAnswer Refusal-number-k.ps Refusal-number-k.r Refusal-number.Asked Refusal-number.Learnt
+Refusal-number_one κs a = (tt, λ z z' ws ws' p q. (same p q, refl))
+
 pub check_record_one : OneAnswer check-record-k.ps check-record-k.r check-record.Asked check-record.Learnt
 check_record_one κs a = (tt, λ z z' ws ws' p q. (checked_told z z' (same p q), refl))
 
 pub check_records_one : OneAnswer check-records-k.ps check-records-k.r check-records.Asked check-records.Learnt
-check_records_one κs a = (tt, λ z z' ws ws' p q. (same p q, refl))
+check_records_one κs a = (tt, λ z z' ws ws' p q. (reviewed_tells z z' (same p q), refl))
 
 pub check_slice_one : OneAnswer check-slice-k.ps check-slice-k.r check-slice.Asked check-slice.Learnt
 check_slice_one κs a = (tt, λ z z' ws ws' p q. (checked_told z z' (same p q), refl))

@@ -21,11 +21,11 @@ use Rattle.slice.specs.Record.{of_side, record_size, slice_size, kind_of, flags_
 use Rattle.slice.specs.Rules.{times_right, content_right}
 use Rattle.slice.specs.Check.{checked_reply, refused, reserved_clear, emptied, counted_tests, record_tests, slice_tests}
 use Rattle.slice.specs.Check.{check_record, check_slice}
-use Rattle.slice.specs.declared.check.Checked.TheVariants.{Sound}
+use Rattle.slice.specs.Check.{sound}
 use Rattle.slice.proofs.Stages.{record_is, slice_is}
 
 -- ---- the answers of the check are told apart by their numbers
-pub refused_apart : (n : ℕ) → refused n ≡ Sound → ⊥
+pub refused_apart : (n : ℕ) → refused n ≡ sound → ⊥
 unfolding checked_reply
 refused_apart n e = refusal_apart n 1 0 (ap checked_reply e)
 
@@ -37,12 +37,12 @@ refused_tells m n e = refusal_tells m n (ap checked_reply e)
 pub slice_refused : (stride : ℕ) (feature : List ℕ) (side : ℕ) (s : List ℕ) (n : ℕ)
     → check_slice stride feature side s ≡ refused n → FirstFails n (slice_tests stride feature side s)
 unfolding check_slice
-slice_refused stride feature side s n = given_number refused Sound refused_apart refused_tells n (slice_tests stride feature side s)
+slice_refused stride feature side s n = given_number refused sound refused_apart refused_tells n (slice_tests stride feature side s)
 
 pub refused_slice : (stride : ℕ) (feature : List ℕ) (side : ℕ) (s : List ℕ) (n : ℕ)
     → FirstFails n (slice_tests stride feature side s) → check_slice stride feature side s ≡ refused n
 unfolding check_slice
-refused_slice stride feature side s n = number_given refused Sound n (slice_tests stride feature side s)
+refused_slice stride feature side s n = number_given refused sound n (slice_tests stride feature side s)
 
 -- ---- a sound record
 module _ (stride : ℕ) (r : List ℕ) where
@@ -79,10 +79,10 @@ module _ (stride side : ℕ) (r : List ℕ) where
       inl (record { cancelled = e; timeless = q.0; blank = q.1 })
   by_flag false e h p = inr (counted e p)
 
-  pub sound_record : check_record stride side r ≡ Sound → SoundRecord stride r side
+  pub sound_record : check_record stride side r ≡ sound → SoundRecord stride r side
   unfolding check_record record_tests reserved_clear
   sound_record e =
-      let p = given_passed refused Sound refused_apart
+      let p = given_passed refused sound refused_apart
       (test 9 (not (eqb (length r) (record_size stride))) ∷ record_tests stride side r) e in
       let q = and_both (ltb (flags_of r) 2) (filled 0 8 r 24) (not-false _ p.1.1.0) in
       record {
@@ -99,11 +99,11 @@ module _ (stride side : ℕ) (r : List ℕ) where
   passed_rest (inl m) = (rw (m.cancelled, m.timeless, m.blank), rw m.cancelled tt)
   passed_rest (inr k) = (rw k.uncancelled, rw k.uncancelled (k.properties, (ap not k.times, (ap not k.content, tt))))
 
-  pub record_sound : SoundRecord stride r side → check_record stride side r ≡ Sound
+  pub record_sound : SoundRecord stride r side → check_record stride side r ≡ sound
   unfolding check_record record_tests reserved_clear
   record_sound h =
       let q = passed_rest h.rest in
-      answer_given refused Sound (test 9 (not (eqb (length r) (record_size stride))) ∷ record_tests stride side r)
+      answer_given refused sound (test 9 (not (eqb (length r) (record_size stride))) ∷ record_tests stride side r)
       (ap not (eq-eqb _ _ h.size), (ap not h.kind, (rw (lt-ltb _ _ h.flags, h.reserved), q)))
 
 -- ---- a slice goes by its record's own bytes
@@ -121,25 +121,25 @@ delivered stride feature side r h =
 pub record SoundSlice (stride : ℕ) (feature : List ℕ) (side : ℕ) (s : List ℕ) : Type 0 where
   pub size : length s ≡ slice_size stride
   pub named : take 16 s ≡ feature
-  pub sound : check_record stride side (drop 16 s) ≡ Sound
+  pub sound : check_record stride side (drop 16 s) ≡ sound
 
-pub sound_slice : (stride : ℕ) (feature : List ℕ) (side : ℕ) (s : List ℕ) → check_slice stride feature side s ≡ Sound
+pub sound_slice : (stride : ℕ) (feature : List ℕ) (side : ℕ) (s : List ℕ) → check_slice stride feature side s ≡ sound
     → SoundSlice stride feature side s
 unfolding check_slice slice_tests check_record
 sound_slice stride feature side s e =
-    let p = given_passed refused Sound refused_apart (slice_tests stride feature side s) e in
+    let p = given_passed refused sound refused_apart (slice_tests stride feature side s) e in
     let size : length s ≡ slice_size stride = eqb-true _ _ (not-false _ p.0) in
     let rest : length (drop 16 s) ≡ record_size stride = length-drop 16 s ∙ omega arith in
     record {
       size = size;
       named = same_bytes_lem _ _ (not-false _ p.1.0);
-      sound = answer_given refused Sound
+      sound = answer_given refused sound
           (test 9 (not (eqb (length (drop 16 s)) (record_size stride))) ∷ record_tests stride side (drop 16 s))
           (ap not (eq-eqb _ _ rest), p.1.1);
     }
 
 pub slice_sound : (stride : ℕ) (feature : List ℕ) (side : ℕ) (s : List ℕ) → SoundSlice stride feature side s
-    → check_slice stride feature side s ≡ Sound
+    → check_slice stride feature side s ≡ sound
 slice_sound stride feature side s h =
     let size = h.size in
     let rest : length (drop 16 s) ≡ record_size stride = length-drop 16 s ∙ omega arith in

@@ -1,5 +1,6 @@
 -- The slice check, 9 to 16 (document 01, "Refusal numbers"). Assumes nothing.
 use Rattle.std.specs.Prelude.{ℕ, suc, ◌*◌, List, [], ◌∷◌, Bool, cond, not, ◌&&◌, length, take, drop, eqb, ltb}
+use Rattle.std.specs.Prelude.{Result, Ok, Err}
 use Rattle.laws.specs.Lists.{any}
 use Rattle.laws.specs.Refusals.{Test, test, refuse}
 use Rattle.laws.specs.Replies.{Reply, refused_with, accepted_as, refusal_number}
@@ -8,27 +9,27 @@ use Rattle.numbers.specs.Numbers.{numbers}
 use Rattle.property.specs.Eight.{breaks, eight}
 use Rattle.slice.specs.Record.{of_side, record_size, slice_size, kind_of, flags_of, cancelled_of, parts_of, view_of}
 use Rattle.slice.specs.Rules.{baseline_times, permdelta_times, tempdelta_times, times_of, times_right, content_of, content_right}
-use Rattle.slice.specs.declared.check.Refusal.{Refusal}
-use Rattle.slice.specs.declared.check.Checked.{Checked}
-use Rattle.slice.specs.declared.check.Checked.TheVariants.{Sound, Refused}
-use Rattle.slice.specs.declared.check.Review.{Review}
-use Rattle.slice.specs.declared.check.Review.TheVariants.{AllSound, Failing}
+use Rattle.slice.specs.Refusing.{number}
+use Rattle.slice.specs.declared.check.Failing.{Failing}
 
--- a refusal, in numbers
-abbrev pub refusal_reply : Refusal → Reply
-refusal_reply f = refused_with f.number
+-- what a check returns: nothing is refused, or the number of the refusal
+abbrev pub Checked : Type 0
+Checked = Result Unit ℕ
 
--- what a check returns, in numbers: nothing is refused, 1
+abbrev pub sound : Checked
+sound = Ok tt
+
+abbrev pub refused : ℕ → Checked
+refused n = Err n
+
+-- the same in numbers: nothing is refused, 1
 unfoldable pub checked_reply : Checked → Reply
-checked_reply Sound = accepted_as 1 0
-checked_reply (Refused f) = refusal_reply f
+checked_reply (Ok _) = accepted_as 1 0
+checked_reply (Err n) = refused_with n
 
 -- the number of a refusal, and 0 where nothing is refused
 abbrev pub number_of : Checked → ℕ
 number_of c = refusal_number (checked_reply c)
-
-abbrev pub refused : ℕ → Checked
-refused n = Refused (record { number = n })
 
 -- flag bits 1-7 and bytes 24-31 are zero
 unfoldable pub reserved_clear : List ℕ → Bool
@@ -63,25 +64,40 @@ slice_tests stride feature side s =
 
 -- the check of a record by itself; bytes that are no record of that stride are refused as a slice of a wrong size is
 unfoldable pub check_record : ℕ → ℕ → List ℕ → Checked
-check_record stride side r = refuse refused (test 9 (not (eqb (length r) (record_size stride))) ∷ record_tests stride side r) Sound
+check_record stride side r = refuse refused (test 9 (not (eqb (length r) (record_size stride))) ∷ record_tests stride side r) sound
 
 -- of records one behind the other the first that is refused: its place, counted from i on, and its refusal
+abbrev pub Review : Type 0
+Review = Result Unit (ℕ × ℕ)
+
+abbrev pub all_sound : Review
+all_sound = Ok tt
+
+abbrev pub failing : ℕ → ℕ → Review
+failing i n = Err (i, n)
+
 abbrev pub stopped : ℕ → Checked → Review → Review
-stopped i Sound rest = rest
-stopped i (Refused f) rest = Failing i f
+stopped i (Ok _) rest = rest
+stopped i (Err n) rest = failing i n
 
 abbrev pub review_from : ℕ → ℕ → ℕ → List (List ℕ) → Review
-review_from stride side i [] = AllSound
+review_from stride side i [] = all_sound
 review_from stride side i (r ∷ rs) = stopped i (check_record stride side r) (review_from stride side (suc i) rs)
 
 unfoldable pub review_of : ℕ → ℕ → List (List ℕ) → Review
 review_of stride side rs = review_from stride side 0 rs
 
 unfoldable pub check_slice : ℕ → List ℕ → ℕ → List ℕ → Checked
-check_slice stride feature side s = refuse refused (slice_tests stride feature side s) Sound
+check_slice stride feature side s = refuse refused (slice_tests stride feature side s) sound
+
+-- what the code tells of it
+abbrev pub reviewed : Result Unit Failing → Review
+reviewed (Ok u) = Ok u
+reviewed (Err f) = failing f.place (number f.refusal)
 
 -- `unfolding checking` opens every definition that the check computes by
 unfoldable pub checking : Unit {0}
-unfolding reserved_clear emptied counted_tests record_tests slice_tests check_record review_of check_slice checked_reply numbers of_side view_of
-    baseline_times permdelta_times tempdelta_times times_of times_right content_of content_right same_bytes eight
+unfolding reserved_clear emptied counted_tests record_tests slice_tests check_record review_of check_slice checked_reply numbers
+    of_side view_of baseline_times permdelta_times tempdelta_times times_of times_right content_of content_right same_bytes
+    eight
 checking = tt

@@ -1,4 +1,5 @@
 pub mod Record
 pub mod Rules
+pub mod Refusing
 pub mod Check
 pub mod Examples

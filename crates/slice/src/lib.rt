@@ -4,11 +4,12 @@
 
 mod check;
 mod record;
-pub mod refusals;
+mod refusal;
 mod rules;
 
-pub use check::{Checked, Refusal, Review, check_record, check_records, check_slice, number_of};
+pub use check::{Failing, check_record, check_records, check_slice, number_of};
 pub use record::{
     BASELINE, Key, Life, PERMANENT, PERMDELTA, Period, TEMPDELTA, TEMPORARY, correction_of,
     is_cancelled, key_of, life_of, period_of, side_takes,
 };
+pub use refusal::Refusal;

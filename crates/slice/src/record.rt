@@ -5,34 +5,34 @@ ghost use Rattle.slice.specs.Record.{of_side, cancelled_of, correction_of, perio
 use numbers::{CorrectionNumber, Instant, SequenceNumber};
 use octets::{be16, be32, byte};
 
-// The kinds of a slice.
+// The kinds of a slice, as bytes: the fields of a record, and its key, answer for every byte.
 pub const BASELINE: u8 = 1;
 
 pub const PERMDELTA: u8 = 2;
 
 pub const TEMPDELTA: u8 = 3;
 
-// The sides: the permanent table and the temporary table.
+// The sides, as bytes too: the permanent table and the temporary table.
 pub const PERMANENT: u8 = 0;
 
 pub const TEMPORARY: u8 = 1;
 
 // What a table is ordered by: the kind, then the sequence number.
-#[derive(Clone, Copy)]
+#[derive(Clone, Copy, Debug, PartialEq, Eq, PartialOrd, Ord)]
 pub struct Key {
     pub kind: u8,
     pub sequence: SequenceNumber,
 }
 
 // From begin on, before end. The begin of a PERMDELTA is its instant.
-#[derive(Clone, Copy)]
+#[derive(Clone, Copy, Debug, PartialEq, Eq)]
 pub struct Period {
     pub begin: Instant,
     pub end: Instant,
 }
 
 // The feature's life time, as far as the slice gives it.
-#[derive(Clone, Copy)]
+#[derive(Clone, Copy, Debug, PartialEq, Eq)]
 pub struct Life {
     pub begin: Instant,
     pub end: Instant,
@@ -40,34 +40,30 @@ pub struct Life {
 
 impl Key {
     // Whether this key comes before the other: by kind, then by sequence number.
+    #[tactic(auto, unfolding(crate::specs::Record::key_less, laws::specs::Orders::lex_less, numbers::specs::Numbers::numbers))]
     pub fn precedes(self, other: Key) -> bool
         ensures { result ≡ key_less self other }
     {
-        let lower = self.kind < other.kind;
-        let level = self.kind == other.kind;
-        let mine = self.sequence;
-        let theirs = other.sequence;
-        lower | (level & mine.precedes(theirs))
+        self < other
     }
 
     // Whether the two are one key.
+    #[tactic(auto, unfolding(crate::specs::Record::same_key, numbers::specs::Numbers::same_sequence))]
     pub fn is(self, other: Key) -> bool
         ensures { result ≡ same_key self other }
     {
-        let level = self.kind == other.kind;
-        let mine = self.sequence;
-        let theirs = other.sequence;
-        level & mine.is(theirs)
+        self == other
     }
 }
 
 // Whether a side takes a kind.
+#[tactic(auto, unfolding(crate::specs::Record::of_side))]
 pub fn side_takes(side: u8, kind: u8) -> bool
     ensures { result ≡ of_side side kind }
 {
     match side {
-        0 => (kind == BASELINE) | (kind == PERMDELTA),
-        1 => kind == TEMPDELTA,
+        PERMANENT => matches!(kind, BASELINE | PERMDELTA),
+        TEMPORARY => kind == TEMPDELTA,
         _ => false,
     }
 }
@@ -90,10 +86,9 @@ pub fn correction_of(record: &[u8]) -> CorrectionNumber
 pub fn key_of(record: &[u8]) -> Key
     ensures { result ≡ key_of «record».now }
 {
-    let sequence = be32(record, 4);
     Key {
         kind: byte(record, 0),
-        sequence: SequenceNumber(sequence),
+        sequence: SequenceNumber(be32(record, 4)),
     }
 }
 
@@ -101,11 +96,9 @@ pub fn key_of(record: &[u8]) -> Key
 pub fn period_of(record: &[u8]) -> Period
     ensures { result ≡ period_of «record».now }
 {
-    let begin = be32(record, 8);
-    let end = be32(record, 12);
     Period {
-        begin: Instant(begin),
-        end: Instant(end),
+        begin: Instant(be32(record, 8)),
+        end: Instant(be32(record, 12)),
     }
 }
 
@@ -113,10 +106,8 @@ pub fn period_of(record: &[u8]) -> Period
 pub fn life_of(record: &[u8]) -> Life
     ensures { result ≡ life_of «record».now }
 {
-    let begin = be32(record, 16);
-    let end = be32(record, 20);
     Life {
-        begin: Instant(begin),
-        end: Instant(end),
+        begin: Instant(be32(record, 16)),
+        end: Instant(be32(record, 20)),
     }
 }

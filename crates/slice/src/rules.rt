@@ -8,77 +8,64 @@ use crate::record::{BASELINE, Life, PERMDELTA, Period};
 fn end_right(period: Period) -> bool
     ensures { result ≡ end_right period }
 {
-    let begin = period.begin;
-    let end = period.end;
-    end.is_none() | begin.precedes(end)
+    period.end.is_none() | period.begin.precedes(period.end)
 }
 
 // The times of a BASELINE, its begin being given.
+#[tactic(auto, unfolding(crate::specs::Rules::baseline_times))]
 fn baseline_times(period: Period, life: Life) -> bool
     ensures { result ≡ baseline_times period life }
 {
-    let begin = period.begin;
-    let end = period.end;
-    let born = life.begin;
-    let gone = life.end;
-    let born_right = born.is_none() | born.at_most(begin);
-    let gone_right = gone.is_none() | begin.precedes(gone);
-    let end_in_life = end.is_none() | (gone.is_none() | end.at_most(gone));
+    let born_right = life.begin.is_none() | life.begin.at_most(period.begin);
+    let gone_right = life.end.is_none() | period.begin.precedes(life.end);
+    let end_in_life = period.end.is_none() | (life.end.is_none() | period.end.at_most(life.end));
     end_right(period) & (born_right & (gone_right & end_in_life))
 }
 
 // The times of a PERMDELTA, its instant being given.
+#[tactic(auto, unfolding(crate::specs::Rules::permdelta_times))]
 fn permdelta_times(period: Period, life: Life) -> bool
     ensures { result ≡ permdelta_times period life }
 {
     let instant = period.begin;
-    let end = period.end;
-    let born = life.begin;
-    let gone = life.end;
-    let born_right = born.is_none() | born.is(instant);
-    let gone_right = gone.is_none() | gone.is(instant);
-    let one_at_most = born.is_none() | gone.is_none();
-    end.is_none() & (born_right & (gone_right & one_at_most))
+    let born_right = life.begin.is_none() | life.begin.is(instant);
+    let gone_right = life.end.is_none() | life.end.is(instant);
+    let one_at_most = life.begin.is_none() | life.end.is_none();
+    period.end.is_none() & (born_right & (gone_right & one_at_most))
 }
 
 // The times of a TEMPDELTA, its begin being given.
+#[tactic(auto, unfolding(crate::specs::Rules::tempdelta_times))]
 fn tempdelta_times(period: Period, life: Life) -> bool
     ensures { result ≡ tempdelta_times period life }
 {
-    let born = life.begin;
-    let gone = life.end;
-    end_right(period) & (born.is_none() & gone.is_none())
+    end_right(period) & (life.begin.is_none() & life.end.is_none())
 }
 
 // Whether the times of a slice of a kind are right.
+#[tactic(auto, unfolding(crate::specs::Rules::times_of))]
 pub fn times_right(kind: u8, period: Period, life: Life) -> bool
     ensures { result ≡ times_of kind period life }
 {
-    let begin = period.begin;
-    if begin.is_none() {
+    if period.begin.is_none() {
         return false;
     }
-    if kind == BASELINE {
-        return baseline_times(period, life);
+    match kind {
+        BASELINE => baseline_times(period, life),
+        PERMDELTA => permdelta_times(period, life),
+        _ => tempdelta_times(period, life),
     }
-    if kind == PERMDELTA {
-        return permdelta_times(period, life);
-    }
-    tempdelta_times(period, life)
 }
 
 // Whether the content of a slice of a kind is right, by whether it mentions every property and whether
 // it mentions some.
+#[tactic(auto, unfolding(crate::specs::Rules::content_of))]
 pub fn content_right(kind: u8, life: Life, every: bool, some: bool) -> bool
     ensures { result ≡ content_of kind life every some }
 {
-    if kind == BASELINE {
-        return every;
+    match kind {
+        BASELINE => every,
+        PERMDELTA => some | (!life.begin.is_none() | !life.end.is_none()),
+        _ => some,
     }
-    if kind == PERMDELTA {
-        let born = life.begin;
-        let gone = life.end;
-        return some | (!born.is_none() | !gone.is_none());
-    }
-    some
 }

@@ -19,7 +19,7 @@ use Rattle.numbers.specs.Numbers.{is_none, lower_sequence, same_sequence}
 use Rattle.numbers.specs.declared.Instant.{Instant}
 use Rattle.slice.specs.Record.{unmentioned, says, Slice}
 use Rattle.slice.specs.Check.{refused}
-use Rattle.slice.specs.declared.check.Checked.TheVariants.{Sound}
+use Rattle.std.specs.Prelude.{Ok}
 use Rattle.slice.proofs.Sound.{refused_apart}
 use Rattle.table.specs.Header.{feature_of, stride_of}
 use Rattle.table.specs.Rules.{table_tests, check_table}
@@ -35,29 +35,29 @@ use Rattle.state.specs.Written.{property_bytes, state_record}
 use Rattle.state.specs.Asking.{slices_of, permanent_tests, both_tests, writing_tests, asking_tests, refused_outcome, outcome_of}
 use Rattle.state.specs.Asking.{permanent_state_of, snapshot_of, buffered, after_state, after_snapshot, refused_place, placed}
 use Rattle.state.specs.Asking.{place_at, place_of, Tells}
-use Rattle.state.specs.declared.answer.Outcome.{Outcome}
-use Rattle.state.specs.declared.answer.Outcome.TheVariants as outcome
+use Rattle.state.specs.Asking.{Outcome}
+use Rattle.std.specs.Prelude.{Ok}
 use Rattle.state.proofs.Slices.{sound_rising, slice_eight, slice_sized}
 use Rattle.state.proofs.RecordProperties.{Fits, written_property}
 use Rattle.state.proofs.PropertyPlace.{place_bytes, tests_sound}
 
 -- ---- what a snapshot that is written tells
-written_apart : (n : ℕ) → refused_outcome n ≡ outcome.Written → ⊥
+written_apart : (n : ℕ) → refused_outcome n ≡ Ok tt → ⊥
 written_apart n e = true≢false cc
 
 module _ (p t : List ℕ) (at : Instant) where
   -- both tables are sound, the tests that come before the property's are passed, and a state is known
   record Answered : Type 0 where
-    permanent : check_table Permanent p ≡ Sound
-    temporary : check_table Temporary t ≡ Sound
+    permanent : check_table Permanent p ≡ Ok tt
+    temporary : check_table Temporary t ≡ Ok tt
     tables : Passed (both_tests p t)
     instant : is_none at ≡ false
-    standing : outcome_of (snapshot_at at (slices_of p) (slices_of t)) ≡ outcome.Written
+    standing : outcome_of (snapshot_at at (slices_of p) (slices_of t)) ≡ Ok tt
 
-  answered : (buffer : List ℕ) → snapshot_of p t at buffer ≡ outcome.Written → Answered
+  answered : (buffer : List ℕ) → snapshot_of p t at buffer ≡ Ok tt → Answered
   unfolding snapshot_of both_tests permanent_tests
   answered buffer e =
-      let (all, w) = passed_answer refused_outcome outcome.Written written_apart (both_tests p t ++ writing_tests p at buffer) _ e in
+      let (all, w) = passed_answer refused_outcome (Ok tt) written_apart (both_tests p t ++ writing_tests p at buffer) _ e in
       let (tables, (i, _)) = passed_split (both_tests p t) (writing_tests p at buffer) all in
       let (a, rest) = passed_split (permanent_tests p) _ tables in
       let (b, _) = passed_split (table_tests (stride_of t) Temporary t) _ rest in
@@ -131,14 +131,14 @@ module _ (p t : List ℕ) (at : Instant) (a : Answered p t at) where
           (told (last_mention n temporaries) (last_mention n permanents) refl refl)
 
   known_tells : (buffer : List ℕ) (n : ℕ) → n < 8 → (st : Standing) → permanent_at at (slices_of p) ≡ st
-      → outcome_of (overlaid temporaries st) ≡ outcome.Written
+      → outcome_of (overlaid temporaries st) ≡ Ok tt
       → Tells p t
-      (take (stride_of p) (drop (32 + n * stride_of p) (buffered outcome.Written (stride_of p) at (overlaid temporaries st) buffer)))
+      (take (stride_of p) (drop (32 + n * stride_of p) (buffered (Ok tt) (stride_of p) at (overlaid temporaries st) buffer)))
       (place_at p t at n st)
   known_tells buffer n h (refuses k) e w = absurd (written_apart k w)
   known_tells buffer n h (known s) e w = end_tells s e n h
 
-module _ (p t : List ℕ) (at : Instant) (buffer : List ℕ) (e : snapshot_of p t at buffer ≡ outcome.Written) (n : ℕ) (h : n < 8) where
+module _ (p t : List ℕ) (at : Instant) (buffer : List ℕ) (e : snapshot_of p t at buffer ≡ Ok tt) (n : ℕ) (h : n < 8) where
   place_known : place_of p t at n ≡ place_at p t at n (permanent_at at (slices_of p))
   unfolding place_of
   place_known =
@@ -159,7 +159,7 @@ overlaid_none : (st : Standing) → overlaid [] st ≡ st
 overlaid_none (refuses k) = refl
 overlaid_none (known s) = refl
 
-module _ (p t : List ℕ) (at : Instant) (buffer : List ℕ) (sound : check_table Temporary t ≡ Sound)
+module _ (p t : List ℕ) (at : Instant) (buffer : List ℕ) (sound : check_table Temporary t ≡ Ok tt)
     (named : feature_of p ≡ feature_of t) (quiet : kept (valid at) (slices_of t) ≡ []) where
   same_standing : snapshot_at at (slices_of p) (slices_of t) ≡ permanent_at at (slices_of p)
   unfolding snapshot_at passing
@@ -174,7 +174,7 @@ module _ (p t : List ℕ) (at : Instant) (buffer : List ℕ) (sound : check_tabl
       let answer : Outcome = outcome_of (snapshot_at at (slices_of p) (slices_of t)) in
       let passed : Passed late =
       passed_join (table_tests (stride_of t) Temporary t) _
-      (given_passed refused Sound refused_apart (table_tests (stride_of t) Temporary t) sound)
+      (given_passed refused (Ok tt) refused_apart (table_tests (stride_of t) Temporary t) sound)
       (ap not (bytes_same (feature_of p) (feature_of t) named), tt) in
       refuse_join refused_outcome (permanent_tests p ++ late) (writing_tests p at buffer) answer
       ∙ refuse_join refused_outcome (permanent_tests p) late (refuse refused_outcome (writing_tests p at buffer) answer)

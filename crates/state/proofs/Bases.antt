@@ -9,7 +9,6 @@ use Rattle.laws.specs.Keyed.{In}
 use Rattle.laws.proofs.Tests.{tests, pick_ind, by-test, contrary, and_both}
 use Rattle.numbers.specs.Numbers.{is_none, given, before, at_most, same_instant}
 use Rattle.numbers.specs.declared.Instant.{Instant}
-use Rattle.slice.specs.declared.record.Period.{Period}
 use Rattle.slice.specs.Record.{baseline, Slice}
 use Rattle.history.specs.Counted.{counts, holds}
 use Rattle.history.specs.Period.{begin_of, until}
@@ -21,35 +20,7 @@ use Rattle.state.specs.declared.anchor.Few.{Few}
 use Rattle.state.specs.declared.anchor.Few.TheVariants.{Zero, One, More}
 use Rattle.state.specs.declared.front.Bases.{Bases}
 
--- ---- one more, case by case
-module _ (begin : Instant) (b : Bases) where
-  pub closed_later : before b.last begin ≡ true → record { fixed = b.fixed; last = begin; endless = Zero } ≡ closed_by begin b
-  unfolding closed_by
-  closed_later y = rw y
-
-  pub closed_not : before b.last begin ≡ false → b ≡ closed_by begin b
-  unfolding closed_by
-  closed_not n = rw n
-
-module _ (t : Instant) (i : ℕ) (p : Period) (b : Bases) where
-  pub held_not : before t p.end ≡ false → b ≡ held_with t i p b
-  unfolding held_with
-  held_not n = rw n
-
-  pub held_fixed : before t p.end ≡ true → is_none p.end ≡ false
-      → record { fixed = one_more i b.fixed; last = b.last; endless = b.endless } ≡ held_with t i p b
-  unfolding held_with
-  held_fixed y n = rw (y, n)
-
-  pub held_endless : before t p.end ≡ true → is_none p.end ≡ true → same_instant p.begin b.last ≡ true
-      → record { fixed = b.fixed; last = b.last; endless = one_more i b.endless } ≡ held_with t i p b
-  unfolding held_with
-  held_endless y n s = rw (y, n, s)
-
-  pub held_closed : before t p.end ≡ true → is_none p.end ≡ true → same_instant p.begin b.last ≡ false → b ≡ held_with t i p b
-  unfolding held_with
-  held_closed y n s = rw (y, n, s)
-
+-- ---- one more
 module _ (t : Instant) (i : ℕ) (s : Slice) where
   pub base_turn : begun t s ≡ true → (b : Bases) → held_with t i s.period (closed_by (begin_of s) b) ≡ base_with t b i s
   base_turn y b = rw y

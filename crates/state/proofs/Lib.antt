@@ -21,8 +21,6 @@ pub mod StateRecord
 pub mod OnePass
 -- what the pass over a permanent table hands on to the search for the anchor
 pub mod SurveyResult
--- what the search for the anchor finds, from the counts of candidates
-pub mod Anchors
 -- the BASELINEs that one pass finds to hold are those that stand
 pub mod Bases
 -- the pass keeps, for each part, the mark of its latest mention
@@ -37,6 +35,8 @@ pub mod Slices
 pub mod Views
 -- one turn of a loop over a table's records
 pub mod Walks
+-- one turn of such a loop, by the record that it read
+pub mod Turns
 -- the record of a state, property by property
 pub mod RecordProperties
 -- parts of a state's record, written one behind the other

@@ -2,7 +2,7 @@
 -- Assumes nothing.
 use Prim.Native.Nat.{ℕ, zero, suc, ◌+◌, ◌≤◌, ◌<◌}
 use mathlib.Core.Path.{◌≡◌, refl, sym, ap, ◌∙◌}
-use mathlib.Core.Bool.{Bool, true, false, cond, not, ◌&&◌, ◌||◌, and-false}
+use mathlib.Core.Bool.{Bool, true, false, cond, ◌&&◌, and-false}
 use mathlib.Core.List.{List, [], ◌∷◌}
 use mathlib.Core.Logic.{inl, inr, ⊎_elim}
 use mathlib.Core.Option.{Option, none, some}
@@ -13,47 +13,9 @@ use lib.Seq.{get_or-set_same, get_or-set_other}
 use Rattle.laws.specs.Keyed.{In}
 use Rattle.laws.proofs.Tests.{tests, by-test, contrary, and_both, or_either}
 use Rattle.slice.specs.Record.{Slice}
-use Rattle.history.specs.Permanent.{turn_less}
 use Rattle.history.specs.Parts.{tells, Placed, pass_from, later_turn, latest_with}
-use Rattle.state.specs.Steps.{turn_in, later_of, among, wanted, mark_of, mark_due, place_and_one, one_more, tally_with, after_start}
-use Rattle.state.specs.Steps.{origin_of}
+use Rattle.state.specs.Steps.{later_of, among, wanted, mark_of, mark_due, place_and_one, one_more, tally_with}
 use Rattle.state.specs.declared.anchor.Few.{Few}
-use Rattle.state.specs.declared.anchor.Start.{Start}
-use Rattle.state.specs.declared.mention.Mark.{Mark}
-
--- ---- of two mentions the later one
-abbrev pub behind : Mark → Mark → Bool
-behind m n = turn_less (turn_in m) (turn_in n)
-
-module _ (b : Bool) (n m : Mark) where
-  pub later_not : b ≡ false → m ≡ later_of b n m
-  unfolding later_of
-  later_not e = rw e
-
-  pub later_new : b ≡ true → (eqb m.from 0 || behind m n) ≡ true → n ≡ later_of b n m
-  unfolding later_of
-  later_new e h = rw (e, h)
-
-  pub later_old : b ≡ true → (eqb m.from 0 || behind m n) ≡ false → m ≡ later_of b n m
-  unfolding later_of
-  later_old e h = rw (e, h)
-
--- ---- who tells a part last
-module _ (s : Start) (told : Bool) (m : Mark) where
-  abbrev pub spoken : Bool
-  spoken = not (eqb m.from 0) && after_start s m
-
-  pub origin_mark : spoken ≡ true → m.from ≡ origin_of s told m
-  unfolding origin_of
-  origin_mark e = rw e
-
-  pub origin_anchor : spoken ≡ false → told ≡ true → s.place + 1 ≡ origin_of s told m
-  unfolding origin_of
-  origin_anchor h e = rw (h, e) (omega arith)
-
-  pub origin_none : spoken ≡ false → told ≡ false → 0 ≡ origin_of s told m
-  unfolding origin_of
-  origin_none h e = rw (h, e)
 
 -- ---- one record, part by part
 -- the parts from one up to another

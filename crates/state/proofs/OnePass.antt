@@ -29,18 +29,14 @@ use Rattle.history.proofs.Parts.{or_else, last_or, begin_in, end_in, line_end}
 use Rattle.history.proofs.Latest.{slice_in, after_only, latest_placed, last_due, last_valid}
 use Rattle.state.specs.Asking.{slices_of}
 use Rattle.state.specs.Steps.{nothing, among, wanted, mark_of, mark_due, place_and_one, tally_from, since_of, Below, after_start}
-use Rattle.state.specs.Steps.{origin_of, life_at, start_at, unless_ended, found_from, standing_of}
+use Rattle.state.specs.Steps.{slice_here, slice_no, origin_of, life_at, start_at, unless_ended, found_from, standing_of}
 use Rattle.state.specs.declared.mention.Mark.{Mark}
 use Rattle.state.specs.declared.anchor.Few.{Few}
 use Rattle.state.specs.declared.anchor.Few.TheVariants.{Zero, One, More}
 use Rattle.state.specs.declared.anchor.Start.{Start}
-use Rattle.state.specs.declared.anchor.Standing.{Standing}
-use Rattle.state.specs.declared.anchor.Standing.TheVariants.{From, Refused}
+use Rattle.state.specs.Steps.{Standing}
+use Rattle.std.specs.Prelude.{Ok, Err}
 use Rattle.state.proofs.Slices.{slices_length, slice_at_lem}
-
--- the slice that a record of a table says
-abbrev pub slice_here : List ℕ → ℕ → Slice
-slice_here p i = view_of (stride_of p) (record_at (record_size (stride_of p)) i p)
 
 -- ---- tallies
 module _ (test : Slice → Bool) where
@@ -113,11 +109,6 @@ module _ (test : Slice → Bool) where
       few_more e at otherwise = let (x, y, xs, k) = said More e in rw k
 
 -- ---- a table's slices by their places
--- the slice of a place and one
-abbrev pub slice_no : List ℕ → ℕ → Option Slice
-slice_no p zero = none
-slice_no p (suc i) = some (slice_here p i)
-
 module _ (p : List ℕ) where
   -- it tells the life times that the record gives
   pub begin_at : (k : ℕ) → (life_at (record_size (stride_of p)) p k).begin ≡ begin_in (slice_no p k)
@@ -299,8 +290,8 @@ module _ (since t : Instant) (p : List ℕ) where
     pub all : Since since (anchor_by s.based (slice_here p s.place))
 
   abbrev pub Settled : Standing → Type 0
-  Settled (From s) = Begun s
-  Settled (Refused f) = permanent_at t (slices_of p) ≡ refuses f.number
+  Settled (Ok s) = Begun s
+  Settled (Err f) = permanent_at t (slices_of p) ≡ refuses f
 
 module _ (t : Instant) (p : List ℕ) where
   abbrev holding : Slice → Bool

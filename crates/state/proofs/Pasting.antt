@@ -56,14 +56,6 @@ pub whole_pasted : (d a b : List ℕ) → length a ≡ 32 → length d ≡ 32 + 
 whole_pasted d a b h k = pasted_then d a b 0 32 (omega arith) (omega arith)
     ∙ pasted_all d (a ++ b) (omega (arith, length-append a b))
 
--- a property as the record of a place and one says it
-pub said_cut : (t : List ℕ) (n k : ℕ) → (k ≡ 0 → ⊥)
-    → take (stride_of t) (drop (32 + n * stride_of t) (record_at (record_size (stride_of t)) (k - 1) t)) ≡ said_at t n k
-said_cut t n zero h = absurd (h refl)
-said_cut t n (suc i) h =
-    let e : suc i - 1 ≡ i = omega arith in
-    ap (λ (j : ℕ). take (stride_of t) (drop (32 + n * stride_of t) (record_at (record_size (stride_of t)) j t))) e
-
 -- ---- lengths
 module _ (t : List ℕ) (roomy : count_of t ≤ room_of (record_size (stride_of t)) t) where
   pub said_length : (n : ℕ) → n < 8 → (k : ℕ) → k ≤ count_of t → length (said_at t n k) ≡ stride_of t

@@ -13,7 +13,7 @@ use Rattle.laws.proofs.Refusals.{passed_split, refuse_map, refuse_alike}
 use Rattle.numbers.specs.Numbers.{is_none}
 use Rattle.numbers.specs.declared.Instant.{Instant}
 use Rattle.slice.specs.Record.{unmentioned, Slice}
-use Rattle.slice.specs.declared.check.Checked.TheVariants.{Sound}
+use Rattle.std.specs.Prelude.{Ok, Err}
 use Rattle.table.specs.Header.{stride_of}
 use Rattle.table.specs.Rules.{table_tests, check_table}
 use Rattle.table.specs.declared.check.Sides.TheVariants.{Permanent, Temporary}
@@ -26,16 +26,16 @@ use Rattle.history.proofs.Line.{line_in}
 use Rattle.state.specs.Written.{property_bytes}
 use Rattle.state.specs.Asking.{slices_of, permanent_tests, both_tests, asking_tests, refused_place, placed, place_at, place_of}
 use Rattle.state.specs.Asking.{source_of, bytes_at}
-use Rattle.state.specs.declared.question.Source.{Source}
+use Rattle.state.specs.Asking.{Sourced}
 use Rattle.state.specs.declared.question.Source.TheVariants as source
 use Rattle.state.proofs.Slices.{sound_rising}
 use Rattle.state.proofs.PropertyPlace.{place_bytes, tests_sound}
 
 -- ---- by the slices that mentioned the property last in the temporary and in the permanent table
-abbrev source_by : Option Slice → Option Slice → Source
-source_by (some d) v = source.Temporary
-source_by none (some d) = source.Permanent
-source_by none none = source.Unmentioned
+abbrev source_by : Option Slice → Option Slice → Sourced
+source_by (some d) v = Ok source.Temporary
+source_by none (some d) = Ok source.Permanent
+source_by none none = Ok source.Unmentioned
 
 abbrev said_by : ℕ → ℕ → Option Slice → Option Slice → List ℕ
 said_by stride n (some d) v = property_bytes stride (get_or d.properties n unmentioned)
@@ -43,8 +43,8 @@ said_by stride n none (some d) = property_bytes stride (get_or d.properties n un
 said_by stride n none none = []
 
 -- and by the standing of the permanent state
-abbrev pub source_at : Option Slice → Option Slice → Standing → Source
-source_at u v (refuses k) = source.Refused (record { number = k })
+abbrev pub source_at : Option Slice → Option Slice → Standing → Sourced
+source_at u v (refuses k) = Err k
 source_at u v (known s) = source_by u v
 
 abbrev pub said_at : ℕ → ℕ → Option Slice → Option Slice → Standing → List ℕ
@@ -70,15 +70,15 @@ module _ (p t : List ℕ) (at : Instant) (n : ℕ) where
   standing_source (refuses k) = refl
   standing_source (known s) = placed_source over under
 
-  pub source_by_lem : source_of (place_of p t at n) ≡ refuse (λ k. source.Refused (record { number = k })) asked
+  pub source_by_lem : source_of (place_of p t at n) ≡ refuse (λ k. Err k) asked
       (source_at over under (permanent_at at (slices_of p)))
   unfolding place_of
   source_by_lem =
-      refuse_map source_of refused_place (λ k. source.Refused (record { number = k })) (λ k. refl) asked _
-      ∙ ap (refuse (λ k. source.Refused (record { number = k })) asked) (standing_source (permanent_at at (slices_of p)))
+      refuse_map source_of refused_place (λ k. Err k) (λ k. refl) asked _
+      ∙ ap (refuse (λ k. Err k) asked) (standing_source (permanent_at at (slices_of p)))
 
   -- where nothing is refused before the state is looked at
-  module _ (sound : check_table Permanent p ≡ Sound) (sound' : check_table Temporary t ≡ Sound) (h : n < 8) where
+  module _ (sound : check_table Permanent p ≡ Ok tt) (sound' : check_table Temporary t ≡ Ok tt) (h : n < 8) where
     placed_said : (u v : Option Slice) → over ≡ u → under ≡ v → bytes_at p t (placed p t n u v) ≡ said_by (stride_of p) n u v
     unfolding last_mention
     placed_said (some d) v x y =

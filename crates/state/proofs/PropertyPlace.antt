@@ -23,13 +23,13 @@ use Rattle.numbers.specs.Numbers.{is_none}
 use Rattle.numbers.specs.declared.Instant.{Instant}
 use Rattle.slice.specs.Record.{record_size, key_of, key_less, same_key, unmentioned, Slice}
 use Rattle.slice.specs.Check.{refused}
-use Rattle.slice.specs.declared.check.Checked.TheVariants.{Sound}
+use Rattle.std.specs.Prelude.{Ok, Err}
 use Rattle.slice.proofs.Keys.{key_order}
 use Rattle.table.specs.Header.{count_of, stride_of, room_of, records_of, record_at}
 use Rattle.table.specs.Rules.{table_tests, check_table}
 use Rattle.table.specs.declared.check.Sides.{Sides}
 use Rattle.table.specs.declared.check.Sides.TheVariants.{Permanent, Temporary}
-use Rattle.table.proofs.Records.{record_fits, records_length, record_is}
+use Rattle.table.proofs.Records.{room_most, record_fits, records_length, record_is}
 use Rattle.table.proofs.Sound.{sound_table}
 use Rattle.history.specs.Counted.{slice_key}
 use Rattle.history.specs.Permanent.{following, Standing, refuses, known, permanent_at}
@@ -44,11 +44,15 @@ use Rattle.state.specs.Asking.{place_of}
 use Rattle.state.specs.Steps.{mark_due, place_and_one, origin_of, placed_by}
 use Rattle.state.specs.declared.mention.Mark.{Mark}
 use Rattle.state.specs.declared.anchor.Start.{Start}
-use Rattle.state.specs.declared.question.Place.{Place}
+use Rattle.state.specs.Asking.{Located, place_reply, points_into, handed}
+use denote.Ref.{Bor}
 use Rattle.state.specs.declared.question.Place.TheVariants as place
 use Rattle.state.proofs.Slices.{view_key, slices_length, rising_records, sound_rising, slice_at_lem}
 use Rattle.state.proofs.RecordProperties.{view_bytes}
-use Rattle.state.proofs.OnePass.{slice_here, slice_no, anchor_by, known_valid, origin_most, Begun}
+use Rattle.state.specs.Steps.{slice_here, slice_no}
+use Rattle.state.proofs.Walks.{read_here}
+use Rattle.state.proofs.Replies.{place_same}
+use Rattle.state.proofs.OnePass.{origin_known, anchor_by, known_valid, origin_most, Begun}
 use Rattle.state.proofs.StateRecord.{over_last, under_last}
 
 -- where property n begins in record i
@@ -163,20 +167,20 @@ module _ (since t : Instant) (p o : List ℕ) (roomy : count_of p ≤ room_of (r
       (last_mention n (line t (slices_of p)))
   at_known = ap (place_at p o t n) begun.state
 
-  pub placed_temporary : 0 < over → place_at p o t n (permanent_at t (slices_of p)) ≡ place.Temporary (property_place o n (over - 1))
+  pub placed_temporary : 0 < over → place_at p o t n (permanent_at t (slices_of p)) ≡ Ok (place.Temporary (property_place o n (over - 1)))
   placed_temporary y =
       let (e, low) = over_one t o roomy' up' n h over is' (over - 1) (omega arith) in
       at_known ∙ ap (λ d. placed p o n d (last_mention n (line t (slices_of p)))) e
-      ∙ ap place.Temporary (place_here o roomy' up' n (over - 1) low)
+      ∙ ap (λ (x : ℕ). Ok (place.Temporary x)) (place_here o roomy' up' n (over - 1) low)
 
   pub placed_permanent : over ≡ 0 → 0 < from
-      → place_at p o t n (permanent_at t (slices_of p)) ≡ place.Permanent (property_place p n (from - 1))
+      → place_at p o t n (permanent_at t (slices_of p)) ≡ Ok (place.Permanent (property_place p n (from - 1)))
   placed_permanent z y =
       let (e, low) = under_one since t p roomy up s begun n h under is (from - 1) (omega arith) in
       at_known ∙ (λ i. placed p o n (over_none t o roomy' up' n h over is' z i) (e i))
-      ∙ ap place.Permanent (place_here p roomy up n (from - 1) low)
+      ∙ ap (λ (x : ℕ). Ok (place.Permanent x)) (place_here p roomy up n (from - 1) low)
 
-  pub placed_nowhere : over ≡ 0 → from ≡ 0 → place_at p o t n (permanent_at t (slices_of p)) ≡ place.Unmentioned
+  pub placed_nowhere : over ≡ 0 → from ≡ 0 → place_at p o t n (permanent_at t (slices_of p)) ≡ Ok place.Unmentioned
   placed_nowhere z y =
       at_known ∙ (λ i. placed p o n (over_none t o roomy' up' n h over is' z i)
       (under_none since t p roomy up s begun n h under is y i))
@@ -192,23 +196,23 @@ module _ (since t : Instant) (p o : List ℕ) (roomy : count_of p ≤ room_of (r
       (λ y. rw y (sym (placed_temporary (omega tests))))
 
 -- ---- the place that is answered lies within its table, whatever the tables
-pub tests_sound : (sides : Sides) (t : List ℕ) → Passed (table_tests (stride_of t) sides t) → check_table sides t ≡ Sound
+pub tests_sound : (sides : Sides) (t : List ℕ) → Passed (table_tests (stride_of t) sides t) → check_table sides t ≡ Ok tt
 unfolding check_table
-tests_sound sides t = answer_given refused Sound (table_tests (stride_of t) sides t)
+tests_sound sides t = answer_given refused (Ok tt) (table_tests (stride_of t) sides t)
 
 module _ (p o : List ℕ) where
-  abbrev Within : Place → Type 0
-  Within (place.Permanent k) = k + stride_of p ≤ length p
-  Within (place.Temporary k) = k + stride_of o ≤ length o
-  Within place.Unmentioned = Unit {0}
-  Within (place.Refused f) = Unit {0}
+  abbrev Within : Located → Type 0
+  Within (Ok (place.Permanent k)) = k + stride_of p ≤ length p
+  Within (Ok (place.Temporary k)) = k + stride_of o ≤ length o
+  Within (Ok place.Unmentioned) = Unit {0}
+  Within (Err f) = Unit {0}
 
-  refuse_within : (xs : List Test) (v : Place) → (Passed xs → Within v) → Within (refuse refused_place xs v)
+  refuse_within : (xs : List Test) (v : Located) → (Passed xs → Within v) → Within (refuse refused_place xs v)
   refuse_within [] v f = f tt
   refuse_within (x ∷ xs) v f = pick_ind Within x.fails (λ _. tt) (λ y. refuse_within xs v (λ q. f (y, q)))
 
   module _ (t : Instant) (n : ℕ) where
-    placed_within : check_table Permanent p ≡ Sound → check_table Temporary o ≡ Sound → n < 8 → (st : Standing)
+    placed_within : check_table Permanent p ≡ Ok tt → check_table Temporary o ≡ Ok tt → n < 8 → (st : Standing)
         → Within (place_at p o t n st)
     unfolding last_mention
     placed_within e f h (refuses k) = tt
@@ -233,8 +237,27 @@ module _ (p o : List ℕ) where
         let low : ltb 7 n ≡ false = (or_neither (is_none t) (ltb 7 n) i).1 in
         placed_within (tests_sound Permanent p a) (tests_sound Temporary o b) (omega tests) (permanent_at t (slices_of p)))
 
-    pub permanent_within : (at : ℕ) → place_of p o t n ≡ place.Permanent at → at + stride_of p ≤ length p
+    pub permanent_within : (at : ℕ) → place_of p o t n ≡ Ok (place.Permanent at) → at + stride_of p ≤ length p
     permanent_within at e = subst Within e within
 
-    pub temporary_within : (at : ℕ) → place_of p o t n ≡ place.Temporary at → at + stride_of o ≤ length o
+    pub temporary_within : (at : ℕ) → place_of p o t n ≡ Ok (place.Temporary at) → at + stride_of o ≤ length o
     temporary_within at e = subst Within e within
+
+-- ---- the part that is handed back, as the code cuts it: up to the place and s
+module _ (r v : Located) (e : place_reply r ≡ place_reply v) (at : ℕ) (p o : Bor (List ℕ)) (s : ℕ) where
+  pub handed_permanent : r ≡ Ok (place.Permanent at) → s ≡ stride_of p.now
+      → ◌≡◌ {A = (ℕ × ℕ) × List ℕ} (points_into p at, take (at + s - at) (drop at p.now)) (handed v p o)
+  handed_permanent is f =
+      let cut : at + s - at ≡ stride_of p.now = omega arith in
+      rw cut (ap (λ (z : Located). handed z p o) (sym is ∙ place_same r v e))
+
+  pub handed_temporary : r ≡ Ok (place.Temporary at) → s ≡ stride_of o.now
+      → ◌≡◌ {A = (ℕ × ℕ) × List ℕ} (points_into o at, take (at + s - at) (drop at o.now)) (handed v p o)
+  handed_temporary is f =
+      let cut : at + s - at ≡ stride_of o.now = omega arith in
+      rw cut (ap (λ (z : Located). handed z p o) (sym is ∙ place_same r v e))
+
+-- ---- what the functions that place and hand back cite
+pub ruleset placing = (read_here, origin_known, room_most)
+
+pub ruleset handing = (place_same, permanent_within, temporary_within)

@@ -7,6 +7,7 @@ use mathlib.Core.List.{List, [], ◌∷◌, ◌++◌, map}
 use mathlib.Core.Bool.{false, cond, not}
 use mathlib.Core.Logic.{◌⊎◌, inl, inr, ⊎_elim}
 use mathlib.Core.Option.{Option, none, some, none-ne-some, some-injective, map-eq-some_iff}
+use Rattle.std.specs.Prelude.{Err}
 use Rattle.laws.specs.Lists.{any, kept}
 use Rattle.laws.specs.Keyed.{stored}
 use Rattle.laws.specs.Refusals.{test, refuse}
@@ -35,7 +36,6 @@ use Rattle.state.specs.Asking.{slices_of, permanent_tests, both_tests, misfits, 
 use Rattle.state.specs.Asking.{outcome_of, permanent_state_of, snapshot_of, buffered}
 use Rattle.state.specs.Touched.{refused_touched, touched_by, touched_of, uncounted, SameTouched}
 use Rattle.state.specs.Reach.{Reached, SameState, SameSnapshot, SameProperty}
-use Rattle.state.specs.declared.question.Source.TheVariants as source
 use Rattle.state.proofs.Slices.{view_key, view_put, view_stored}
 use Rattle.state.proofs.PropertyBytes.{source_at, said_at, source_by_lem, said_by_lem}
 
@@ -128,7 +128,7 @@ module _ (at : Instant) (p p' : List ℕ) (a : AsBefore Permanent at p p') where
     same_property : (n : ℕ) → SameProperty at p p' t t' n
     same_property n = (
       source_by_lem p' t' at n
-          ∙ (λ i. refuse (λ k. source.Refused (record { number = k })) (asked i) (source_at (over i) (under i) (standing i)))
+          ∙ (λ i. refuse (λ k. Err k) (asked i) (source_at (over i) (under i) (standing i)))
           ∙ sym (source_by_lem p t at n),
       said_by_lem p' t' at n ∙ (λ i. refuse (λ k. []) (asked i) (said_at (stride_of p) n (over i) (under i) (standing i)))
           ∙ sym (said_by_lem p t at n),

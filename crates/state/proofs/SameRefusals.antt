@@ -16,33 +16,34 @@ use Rattle.slice.specs.Record.{Slice}
 use Rattle.history.specs.Permanent.{Standing, refuses, known, permanent_at}
 use Rattle.history.specs.Snapshot.{passing, overlaid, snapshot_at}
 use Rattle.history.specs.Source.{line, last_mention}
-use Rattle.state.specs.Asking.{slices_of, both_tests, misfits, writing_tests, asking_tests, refused_outcome, outcome_of, snapshot_of}
+use Rattle.state.specs.Asking.{slices_of, both_tests, misfits, writing_tests, asking_tests, refused_outcome, outcome_of}
+use Rattle.state.specs.Asking.{snapshot_of}
 use Rattle.state.specs.Asking.{refused_place, placed, place_at, place_of}
-use Rattle.state.specs.declared.answer.Outcome.{Outcome}
-use Rattle.state.specs.declared.answer.Outcome.TheVariants as outcome
-use Rattle.state.specs.declared.question.Place.{Place}
+use Rattle.state.specs.Asking.{Outcome}
+use Rattle.std.specs.Prelude.{Ok, Err}
+use Rattle.state.specs.Asking.{Located}
 use Rattle.state.specs.declared.question.Place.TheVariants as place
 
 -- the number of a refusal, where there is one
 abbrev outcome_refusal : Outcome → Option ℕ
-outcome_refusal outcome.Written = none
-outcome_refusal (outcome.Refused f) = some f.number
+outcome_refusal (Ok _) = none
+outcome_refusal (Err f) = some f
 
-abbrev place_refusal : Place → Option ℕ
-place_refusal (place.Permanent k) = none
-place_refusal (place.Temporary k) = none
-place_refusal place.Unmentioned = none
-place_refusal (place.Refused f) = some f.number
+abbrev place_refusal : Located → Option ℕ
+place_refusal (Ok (place.Permanent k)) = none
+place_refusal (Ok (place.Temporary k)) = none
+place_refusal (Ok place.Unmentioned) = none
+place_refusal (Err f) = some f
 
 outcome_refused : (o : Outcome) (k : ℕ) → outcome_refusal o ≡ some k → o ≡ refused_outcome k
-outcome_refused outcome.Written k e = absurd (none-ne-some k e)
-outcome_refused (outcome.Refused f) k e = ap refused_outcome (some-injective f.number k e)
+outcome_refused (Ok _) k e = absurd (none-ne-some k e)
+outcome_refused (Err f) k e = ap refused_outcome (some-injective f k e)
 
-place_refused : (o : Place) (k : ℕ) → place_refusal o ≡ some k → o ≡ refused_place k
-place_refused (place.Permanent _) k e = absurd (none-ne-some k e)
-place_refused (place.Temporary _) k e = absurd (none-ne-some k e)
-place_refused place.Unmentioned k e = absurd (none-ne-some k e)
-place_refused (place.Refused f) k e = ap refused_place (some-injective f.number k e)
+place_refused : (o : Located) (k : ℕ) → place_refusal o ≡ some k → o ≡ refused_place k
+place_refused (Ok (place.Permanent _)) k e = absurd (none-ne-some k e)
+place_refused (Ok (place.Temporary _)) k e = absurd (none-ne-some k e)
+place_refused (Ok place.Unmentioned) k e = absurd (none-ne-some k e)
+place_refused (Err f) k e = ap refused_place (some-injective f k e)
 
 -- tests that refuse with a number do so whatever comes behind them
 past : (c : Bool) (n k : ℕ) (x y : Option ℕ) → (x ≡ some k → y ≡ some k) → cond c (some n) x ≡ some k → cond c (some n) y ≡ some k

@@ -16,7 +16,7 @@ use Rattle.laws.proofs.Pieces.{piece_at, pieces_sized}
 use Rattle.property.specs.Eight.{properties_of, mentioned}
 use Rattle.slice.specs.Record.{record_size, parts_of, key_of, key_less, same_key, unmentioned, says, property_of, Slice, view_of}
 use Rattle.slice.specs.declared.record.Key.{Key}
-use Rattle.slice.specs.declared.check.Checked.TheVariants.{Sound}
+use Rattle.std.specs.Prelude.{Ok}
 use Rattle.table.specs.Header.{side_of, count_of, stride_of, room_of, records_of, record_at}
 use Rattle.table.specs.Rules.{in_order, check_table}
 use Rattle.table.specs.declared.check.Sides.{Sides}
@@ -126,11 +126,11 @@ module _ (t : List ℕ) where
   unfolding slices_of
   rising_records = rising_views (stride_of t) (records_of size t)
 
-  pub sound_rising : (sides : Sides) → check_table sides t ≡ Sound → Rising slice_key key_less same_key (slices_of t)
+  pub sound_rising : (sides : Sides) → check_table sides t ≡ Ok tt → Rising slice_key key_less same_key (slices_of t)
   sound_rising sides e = slices_rising (sound_table sides t e).rising
 
   -- a sound table can be walked
-  pub sound_walkable : (sides : Sides) → check_table sides t ≡ Sound → Walkable t
+  pub sound_walkable : (sides : Sides) → check_table sides t ≡ Ok tt → Walkable t
   sound_walkable sides e = record { whole = (sound_table sides t e).roomy; rising = sound_rising sides e }
 
   -- what a walk that has come to record i has before it
@@ -162,7 +162,7 @@ module _ (t : List ℕ) where
   slice_eight d m = let (r, n, e) = slice_view d m in ap (λ s. length s.properties) e ∙ view_eight (stride_of t) r
 
   -- in a sound table each that says bytes says as many as a property has
-  pub slice_sized : (sides : Sides) → check_table sides t ≡ Sound → (d : Slice) → In d (slices_of t) → (b : List ℕ)
+  pub slice_sized : (sides : Sides) → check_table sides t ≡ Ok tt → (d : Slice) → In d (slices_of t) → (b : List ℕ)
       → In (says b) d.properties
       → length b ≡ stride_of t
   slice_sized sides e d m b q =

@@ -17,7 +17,7 @@ use Rattle.numbers.specs.Numbers.{no_instant, is_none}
 use Rattle.numbers.specs.declared.Instant.{Instant}
 use Rattle.slice.specs.Record.{tempdelta, record_size, key_less, same_key, Property, unmentioned, Slice, view_of}
 use Rattle.slice.specs.Rules.{times_of, times_right}
-use Rattle.slice.specs.declared.check.Checked.TheVariants.{Sound}
+use Rattle.std.specs.Prelude.{Ok}
 use Rattle.slice.proofs.Sound.{Emptied, Counted}
 use Rattle.slice.proofs.Times.{tempdelta_times_lem}
 use Rattle.table.specs.Header.{count_of, stride_of, room_of, records_of, record_at}
@@ -27,21 +27,22 @@ use Rattle.table.proofs.Sound.{sound_table}
 use Rattle.table.proofs.Stays.{sound_in}
 use Rattle.history.specs.Counted.{counts, holds, slice_key}
 use Rattle.history.specs.State.{State, started, new_time, applied, applied_all}
-use Rattle.history.specs.Permanent.{following}
-use Rattle.history.specs.Snapshot.{valid, passing}
+use Rattle.history.specs.Permanent.{Standing, following, permanent_at}
+use Rattle.history.specs.Snapshot.{valid, passing, overlaid}
 use Rattle.history.specs.Source.{mentions, last_of, last_mention}
 use Rattle.history.specs.Parts.{tells, latest_due, latest_valid}
 use Rattle.history.proofs.Parts.{or_else, last_in, last_or, last_same, tells_mentions, said_in, applied_property, line_property}
 use Rattle.history.proofs.Parts.{begin_in, end_in, line_begin, line_end, applied_length, following_in, passing_in}
 use Rattle.state.specs.Written.{state_kind, state_times, property_bytes, state_record}
-use Rattle.state.specs.Asking.{slices_of}
+use Rattle.state.specs.Asking.{slices_of, record_of}
 use Rattle.state.specs.Steps.{nothing, wanted, mark_due, place_and_one, origin_of, life_from, said_at, property_by, property_from}
 use Rattle.state.specs.Steps.{run_of}
 use Rattle.state.specs.declared.mention.Mark.{Mark}
 use Rattle.state.specs.declared.anchor.Start.{Start}
 use Rattle.state.proofs.Slices.{view_eight, sound_rising, slice_view, slice_eight}
 use Rattle.state.proofs.RecordProperties.{view_bytes}
-use Rattle.state.proofs.OnePass.{slice_here, slice_no, begin_at, end_at, wanted_in, wanted_begin, wanted_end, anchor_by}
+use Rattle.state.specs.Steps.{slice_here, slice_no, Lifeless, Laid}
+use Rattle.state.proofs.OnePass.{begin_at, end_at, wanted_in, wanted_begin, wanted_end, anchor_by}
 use Rattle.state.proofs.OnePass.{origin_last, passing_last, state_from, Begun}
 
 -- ---- runs of bytes
@@ -68,9 +69,6 @@ said_bytes t n (suc i) h l e =
     sym (view_bytes (stride_of t) (record_at (record_size (stride_of t)) i t) n h (last_in (mentions n) l (slice_here t i) e).1)
 
 -- ---- the life times that a TEMPDELTA leaves
-abbrev Lifeless : Slice → Type 0
-Lifeless d = (is_none d.life.begin ≡ true) × (is_none d.life.end ≡ true)
-
 life_kept : (l : List Slice) → ((d : Slice) → In d l → Lifeless d) → (u : State) → (applied_all u l).life ≡ u.life
 unfolding applied new_time
 life_kept [] h u = refl
@@ -79,7 +77,7 @@ life_kept (d ∷ l) h u =
     life_kept l (λ x m. h x (inr m)) (applied u d) ∙ rw (b, e)
 
 -- each that counts in a sound table gives none
-module _ (o : List ℕ) (sound : check_table Temporary o ≡ Sound) where
+module _ (o : List ℕ) (sound : check_table Temporary o ≡ Ok tt) where
   sound_lifeless : (d : Slice) → In d (slices_of o) → counts tempdelta d ≡ true → Lifeless d
   unfolding counts times_right view_of is_none
   sound_lifeless d m c = go (sound_in Temporary o sound seen.0 seen.1).rest
@@ -177,40 +175,39 @@ module _ (since t : Instant) (p : List ℕ) (roomy : count_of p ≤ room_of (rec
           go zero e = said_bytes p n k h (a ∷ ds) under
           go (suc i) e = let z : eqb (suc i) 0 ≡ false = omega tests in rw z (said_bytes o n (suc i) h l e)
 
-      pub property_filled : count_of o ≤ room_of (record_size (stride_of o)) o → Rising slice_key key_less same_key (slices_of o)
-          → ((q : ℕ) → q < 8 → get_or os q 0 ≡ place_and_one (latest_valid q t (slices_of o))) → (n : ℕ) → n < 8
-          → property_from p o s ms os n ≡ property_bytes (stride_of p)
-          (get_or (applied_all u (passing t (slices_of o))).properties n unmentioned)
-      property_filled roomy' up' places n h =
-          overlaid_filled (passing t (slices_of o)) n h (over_last t o roomy' up' n h (get_or os n 0) (places n h))
-
-      pub property_alone : ((q : ℕ) → q < 8 → get_or os q 0 ≡ 0) → (n : ℕ) → n < 8
-          → property_from p o s ms os n ≡ property_bytes (stride_of p) (get_or u.properties n unmentioned)
-      unfolding last_mention
-      property_alone none' n h = overlaid_filled [] n h (sym (ap (slice_no o) (none' n h)))
-
       -- the whole record
-      record_filled : (l : List Slice) → (applied_all u l).life ≡ u.life → ((d : Slice) → In d l → length d.properties ≡ 8)
-          → ((n : ℕ) → n < 8
-          → property_from p o s ms os n ≡ property_bytes (stride_of p) (get_or (applied_all u l).properties n unmentioned))
-          → written ≡ state_record (stride_of p) t (applied_all u l)
+      pub record_filled : (l : List Slice) → Laid o os l → written ≡ state_record (stride_of p) t (applied_all u l)
       unfolding state_record
-      record_filled l life eight h =
-          let e = life_filled ∙ sym life in
+      record_filled l laid =
+          let e = life_filled ∙ sym (life_kept l laid.lifeless u) in
           let long =
           applied_length 8 l u
           (applied_length 8 ds (started a) (view_eight (stride_of p) (record_at (record_size (stride_of p)) s.place p))
-          (λ d m. slice_eight p d (following_in t (slices_of p) (anchor_by s.based a) d m).0)) eight in
-          let run = run_joined (property_from p o s ms os) (applied_all u l).properties (stride_of p) 8 long h in
+          (λ d m. slice_eight p d (following_in t (slices_of p) (anchor_by s.based a) d m).0)) laid.eight in
+          let run =
+          run_joined (property_from p o s ms os) (applied_all u l).properties (stride_of p) 8 long
+          (λ n h. overlaid_filled l n h (laid.last n h)) in
           λ i. state_kind ++ (state_times t (e i) ++ (replicate 8 0 ++ run i))
 
-      pub snapshot_filled : check_table Temporary o ≡ Sound
-          → ((q : ℕ) → q < 8 → get_or os q 0 ≡ place_and_one (latest_valid q t (slices_of o)))
-          → written ≡ state_record (stride_of p) t (applied_all u (passing t (slices_of o)))
-      snapshot_filled sound places =
-          record_filled (passing t (slices_of o)) (life_kept (passing t (slices_of o)) (passing_lifeless o sound t) u)
-          (λ d m. slice_eight o d (passing_in t (slices_of o) d m).0)
-          (property_filled (sound_table Temporary o sound).roomy (sound_rising o Temporary sound) places)
+      -- as it stands in the buffer
+      pub record_laid : (buffer : List ℕ) (l : List Slice) → Laid o os l
+          → written ≡ record_of (stride_of p) t (overlaid l (permanent_at t (slices_of p))) buffer
+      record_laid buffer l laid =
+          record_filled l laid ∙ sym (ap (λ (x : Standing). record_of (stride_of p) t (overlaid l x) buffer) begun.state)
 
-      pub state_filled : ((q : ℕ) → q < 8 → get_or os q 0 ≡ 0) → written ≡ state_record (stride_of p) t u
-      state_filled none' = record_filled [] refl (λ d m. absurd m) (property_alone none')
+-- ---- what comes on a state
+-- nothing
+pub laid_none : (o os : List ℕ) → ((n : ℕ) → n < 8 → get_or os n 0 ≡ 0) → Laid o os []
+unfolding last_mention
+laid_none o os none' =
+    record { last = λ n h. sym (ap (slice_no o) (none' n h)); eight = λ d m. absurd m; lifeless = λ d m. absurd m }
+
+-- what is valid, of a sound table
+pub laid_passing : (t : Instant) (o os : List ℕ) → check_table Temporary o ≡ Ok tt
+    → ((q : ℕ) → q < 8 → get_or os q 0 ≡ place_and_one (latest_valid q t (slices_of o))) → Laid o os (passing t (slices_of o))
+laid_passing t o os sound places = record {
+  last = λ n h.
+      over_last t o (sound_table Temporary o sound).roomy (sound_rising o Temporary sound) n h (get_or os n 0) (places n h);
+  eight = λ d m. slice_eight o d (passing_in t (slices_of o) d m).0;
+  lifeless = passing_lifeless o sound t;
+}

@@ -3,7 +3,7 @@
 use Prim.Native.Nat.{ℕ, ◌+◌, ◌-◌, ◌≤◌, ◌<◌}
 use mathlib.Core.Path.{◌≡◌, refl, sym, ap, ◌∙◌, subst}
 use mathlib.Core.List.{List, [], ◌∷◌, ◌++◌}
-use mathlib.Core.Bool.{Bool, true, false, ◌||◌}
+use mathlib.Core.Bool.{Bool, true, false, cond, ◌&&◌, ◌||◌}
 use mathlib.Core.Option.{Option, none, some}
 use native.Mathlib.Omega.{arith}
 use lib.ListN.{drop}
@@ -15,32 +15,36 @@ use Rattle.laws.proofs.Tests.{tests, pick_ind, by-test, or_neither}
 use Rattle.laws.proofs.Refusals.{passed_split}
 use Rattle.numbers.specs.Numbers.{is_none}
 use Rattle.numbers.specs.declared.Instant.{Instant}
-use Rattle.slice.specs.Record.{record_size, key_less, same_key, Slice}
-use Rattle.slice.specs.declared.check.Refusal.{Refusal}
-use Rattle.slice.specs.declared.check.Checked.TheVariants.{Sound, Refused}
-use Rattle.table.specs.Header.{count_of, stride_of, room_of}
+use Rattle.slice.specs.Record.{tempdelta, record_size, key_less, same_key, Slice, view_of}
+use Rattle.std.specs.Prelude.{Ok, Err}
+use Rattle.table.specs.Header.{count_of, stride_of, room_of, record_at}
 use Rattle.table.specs.Rules.{table_tests, check_table}
 use Rattle.table.specs.declared.check.Sides.TheVariants.{Temporary}
 use Rattle.table.proofs.Records.{room_most}
 use Rattle.table.proofs.Sound.{sound_table}
 use Rattle.history.specs.Counted.{slice_key}
 use Rattle.history.specs.Permanent.{Standing, refuses, known, permanent_at}
-use Rattle.history.specs.Snapshot.{passing}
+use Rattle.history.specs.Snapshot.{valid, passing}
+use Rattle.history.specs.Parts.{tells}
 use Rattle.history.specs.Source.{line, last_mention}
 use Rattle.history.specs.Touched.{touches, looked}
+use Rattle.history.proofs.Parts.{tells_mentions}
 use Rattle.history.proofs.Touched.{LastAt, last_any, last_looked, none_looked, looked_most, untouched_latest, touched_latest}
 use Rattle.state.specs.Asking.{slices_of, permanent_tests, both_tests, asking_tests, refused_place, place_in, placed, place_at}
 use Rattle.state.specs.Asking.{place_of}
 use Rattle.state.specs.Touched.{refused_touched, touched_by, touched_of, uncounted, AnsweredBy}
-use Rattle.state.specs.Steps.{place_and_one}
-use Rattle.state.specs.declared.question.Place.{Place}
+use Rattle.state.specs.Steps.{place_and_one, holding}
+use Rattle.state.specs.Asking.{Located}
 use Rattle.state.specs.declared.question.Place.TheVariants as place
-use Rattle.state.specs.declared.looking.Touched.{Touched}
+use Rattle.state.specs.Touched.{Looked}
 use Rattle.state.specs.declared.looking.Touched.TheVariants as touched
-use Rattle.state.proofs.Slices.{slices_length, slices_at, sound_rising}
-use Rattle.state.proofs.OnePass.{slice_here}
+use Rattle.state.proofs.Slices.{slices_length, slices_at, slices_end, sound_rising}
+use Rattle.state.proofs.Views.{valid_holding}
+use Rattle.state.proofs.Walks.{Read, read_here}
+use Rattle.state.specs.Steps.{slice_here}
 use Rattle.state.proofs.PropertyPlace.{property_place, place_here, over_none, over_one, tests_sound}
-use Rattle.state.proofs.Stages.{check_refuses, check_passes}
+use Rattle.slice.proofs.Replies.{checked_same}
+use Rattle.state.proofs.Stages.{behind, check_behind, whole}
 
 -- ---- the walk, where no slice behind record i touches the property
 module _ (t : List ℕ) (roomy : count_of t ≤ room_of (record_size (stride_of t)) t) (at : Instant) (n : ℕ) where
@@ -49,7 +53,7 @@ module _ (t : List ℕ) (roomy : count_of t ≤ room_of (record_size (stride_of 
 
   module _ (i : ℕ) (h : i < count_of t) (quiet : any test (drop (i + 1) (slices_of t)) ≡ false) where
     -- record i touches it
-    pub found_here : test (slice_here t i) ≡ true → touched.Yes (count_of t - i) ≡ touched_by at n (slices_of t)
+    pub found_here : test (slice_here t i) ≡ true → Ok (touched.Yes (count_of t - i)) ≡ touched_by at n (slices_of t)
     unfolding touched_by
     found_here y =
         let last : LastAt test (slices_of t) i =
@@ -62,26 +66,72 @@ module _ (t : List ℕ) (roomy : count_of t ≤ room_of (record_size (stride_of 
     quiet_here q = ap (any test) (slices_at t i h roomy) ∙ rw (q, quiet)
 
   -- none does
-  pub found_nowhere : any test (slices_of t) ≡ false → touched.No (count_of t) ≡ touched_by at n (slices_of t)
+  pub found_nowhere : any test (slices_of t) ≡ false → Ok (touched.No (count_of t)) ≡ touched_by at n (slices_of t)
   unfolding touched_by
   found_nowhere q = rw (q, none_looked test (slices_of t) q, slices_length t)
 
+-- ---- the walk, as the code takes it: it looks at record r with the two tests, where none that it looked at before touches
+module _ (t : List ℕ) (roomy : count_of t ≤ room_of (record_size (stride_of t)) t) (at : Instant) (n : ℕ) (small : n < 8)
+    (count : ℕ) (all : count ≡ count_of t) where
+  pub look_start : any (touches at n) (drop (count + 1 - 1) (slices_of t)) ≡ false
+  look_start = ap (any (touches at n)) (slices_end t (count + 1 - 1) (omega arith))
+
+  pub look_end : any (touches at n) (drop (count - count) (slices_of t)) ≡ false
+      → Ok (touched.No count) ≡ touched_by at n (slices_of t)
+  look_end quiet =
+      let z : count - count ≡ 0 = omega arith in
+      ap (λ (k : ℕ). Ok (touched.No k)) all ∙ found_nowhere t roomy at n (rw z at quiet)
+
+  module _ (size stride looked : ℕ) (r : List ℕ) (size_is : size ≡ record_size (stride_of t)) (stride_is : stride ≡ stride_of t)
+      (first : 1 ≤ looked) (last : looked ≤ count) (here : r ≡ record_at size (count - looked) t)
+      (quiet : any (touches at n) (drop (count + 1 - looked) (slices_of t)) ≡ false) (held said : Bool)
+      (held_is : (stride : ℕ) → held ≡ holding tempdelta at (view_of stride r)) (said_is : said ≡ tells n (view_of stride r)) where
+    read : Read t (count - looked) stride r
+    read = read_here t (count - looked) size_is here stride_is roomy (omega arith)
+
+    tests_is : (held && said) ≡ touches at n (slice_here t (count - looked))
+    unfolding touches
+    tests_is =
+        let d = slice_here t (count - looked) in
+        let held' : held ≡ valid at d =
+        held_is (stride_of t) ∙ ap (λ r. holding tempdelta at (view_of (stride_of t) r)) read.is ∙ valid_holding at d in
+        let said' = said_is ∙ ap (tells n) read.seen ∙ tells_mentions n d small in
+        λ i. held' i && said' i
+
+    behind_it : any (touches at n) (drop (count - looked + 1) (slices_of t)) ≡ false
+    behind_it = let e : count - looked + 1 ≡ count + 1 - looked = omega arith in rw e quiet
+
+    pub look_found : (held && said) ≡ true → Ok (touched.Yes looked) ≡ touched_by at n (slices_of t)
+    look_found y =
+        let e : looked ≡ count_of t - (count - looked) = omega arith in
+        ap (λ (k : ℕ). Ok (touched.Yes k)) e
+        ∙ found_here t roomy at n (count - looked) (omega arith) behind_it (sym tests_is ∙ y)
+
+    pub look_past : (held && said) ≡ false → any (touches at n) (drop (count + 1 - (looked + 1)) (slices_of t)) ≡ false
+    look_past q =
+        let e : count + 1 - (looked + 1) ≡ count - looked = omega arith in
+        rw e (quiet_here t roomy at n (count - looked) (omega arith) behind_it (sym tests_is ∙ q))
+
+    pub look_last : looked ≡ count → (held && said) ≡ false → Ok (touched.No count) ≡ touched_by at n (slices_of t)
+    look_last e q = let z : count + 1 - (looked + 1) ≡ count - count = omega arith in look_end (rw z at look_past q)
+
+pub ruleset looking_down = (read_here, look_start, look_end)
+
 -- ---- the question, test by test
-module _ (t : List ℕ) (at : Instant) (n : ℕ) where
-  pub touched_refused : (f : Refusal) → check_table Temporary t ≡ Refused f → touched.Refused f ≡ touched_of t at n
-  unfolding touched_of check_table
-  touched_refused f e = sym (check_refuses refused_touched (table_tests (stride_of t) Temporary t) (asking_tests at n) _ f e)
+pub touched_is : (t : List ℕ) (at : Instant) (n : ℕ)
+    → touched_of t at n
+    ≡ behind refused_touched (check_table Temporary t)
+    (cond (is_none at || ltb 7 n) (refused_touched 19) (touched_by at n (slices_of t)))
+unfolding touched_of check_table
+touched_is t at n =
+    check_behind refused_touched (table_tests (stride_of t) Temporary t) (asking_tests at n) (touched_by at n (slices_of t))
 
-  module _ (e : check_table Temporary t ≡ Sound) where
-    left : touched_of t at n ≡ refuse refused_touched (asking_tests at n) (touched_by at n (slices_of t))
-    unfolding touched_of check_table
-    left = check_passes refused_touched (table_tests (stride_of t) Temporary t) (asking_tests at n) _ e
+pub ruleset asking_touched = (checked_same, touched_is, whole)
 
-    pub touched_none : (is_none at || ltb 7 n) ≡ true → refused_touched 19 ≡ touched_of t at n
-    touched_none h = sym (left ∙ rw h)
-
-    pub touched_left : (is_none at || ltb 7 n) ≡ false → touched_by at n (slices_of t) ≡ touched_of t at n
-    touched_left h = sym (left ∙ rw h)
+-- behind the tests
+touched_left : (t : List ℕ) (at : Instant) (n : ℕ) → check_table Temporary t ≡ Ok tt → (is_none at || ltb 7 n) ≡ false
+    → touched_by at n (slices_of t) ≡ touched_of t at n
+touched_left t at n e h = sym (touched_is t at n ∙ rw (e, h))
 
 -- a claim about what tests answer is shown of their refusals, and of the answer where none fails
 refuse_ind : {A : Type 0} (P : A → Type 0) (refused : ℕ → A) → ((k : ℕ) → P (refused k)) → (xs : List Test) (v : A)
@@ -93,7 +143,7 @@ refuse_ind P refused own (x ∷ xs) v f =
 
 -- ---- beside the property question
 -- of a sound table, what touches property n last is what mentions it last among the slices that are valid
-module _ (t : List ℕ) (at : Instant) (n : ℕ) (h : n < 8) (sound : check_table Temporary t ≡ Sound) where
+module _ (t : List ℕ) (at : Instant) (n : ℕ) (h : n < 8) (sound : check_table Temporary t ≡ Ok tt) where
   abbrev roomy : count_of t ≤ room_of (record_size (stride_of t)) t
   roomy = (sound_table Temporary t sound).roomy
 
@@ -117,14 +167,14 @@ module _ (t : List ℕ) (at : Instant) (n : ℕ) (h : n < 8) (sound : check_tabl
 
 module _ (p t : List ℕ) (at : Instant) (n : ℕ) where
   -- what an answer tells of a place: yes, and the place lies in record (count - looked); or no
-  abbrev Beside : Touched → Place → Type 0
-  Beside a (place.Permanent k) = (seen : ℕ) × (a ≡ touched.No seen)
-  Beside a (place.Temporary k) = (seen : ℕ) × (a ≡ touched.Yes seen) × (k ≡ property_place t n (count_of t - seen))
-  Beside a place.Unmentioned = (seen : ℕ) × (a ≡ touched.No seen)
-  Beside a (place.Refused f) = Unit {0}
+  abbrev Beside : Looked → Located → Type 0
+  Beside a (Ok (place.Permanent k)) = (seen : ℕ) × (a ≡ Ok (touched.No seen))
+  Beside a (Ok (place.Temporary k)) = (seen : ℕ) × (a ≡ Ok (touched.Yes seen)) × (k ≡ property_place t n (count_of t - seen))
+  Beside a (Ok place.Unmentioned) = (seen : ℕ) × (a ≡ Ok (touched.No seen))
+  Beside a (Err f) = Unit {0}
 
   -- past the tests
-  module _ (h : n < 8) (sound : check_table Temporary t ≡ Sound) where
+  module _ (h : n < 8) (sound : check_table Temporary t ≡ Ok tt) where
     abbrev slices : List Slice
     slices = slices_of t
 
@@ -135,7 +185,7 @@ module _ (p t : List ℕ) (at : Instant) (n : ℕ) where
         (λ y. let (d, e, k) = touched_mention t at n h sound y in rw (y, e) (looked (touches at n) slices, refl, k))
         (λ q. rw (q, untouched_mention t at n h sound q) (go v))
       where
-        go : (v : Option Slice) → Beside (touched.No (looked (touches at n) slices)) (placed p t n none v)
+        go : (v : Option Slice) → Beside (Ok (touched.No (looked (touches at n) slices))) (placed p t n none v)
         go (some d) = (looked (touches at n) slices, refl)
         go none = (looked (touches at n) slices, refl)
 
@@ -161,30 +211,30 @@ module _ (p t : List ℕ) (at : Instant) (n : ℕ) where
   pub touched_agrees : AnsweredBy (place_of p t at n) (touched_of t at n)
   touched_agrees = go (place_of p t at n) beside
     where
-      go : (v : Place) → Beside (touched_of t at n) v → AnsweredBy v (touched_of t at n)
-      go (place.Permanent k) (seen, e) = ap uncounted e
-      go (place.Temporary k) (seen, e, _) = ap uncounted e
-      go place.Unmentioned (seen, e) = ap uncounted e
-      go (place.Refused f) u = tt
+      go : (v : Located) → Beside (touched_of t at n) v → AnsweredBy v (touched_of t at n)
+      go (Ok (place.Permanent k)) (seen, e) = ap uncounted e
+      go (Ok (place.Temporary k)) (seen, e, _) = ap uncounted e
+      go (Ok place.Unmentioned) (seen, e) = ap uncounted e
+      go (Err f) u = tt
 
   -- and the part that it hands back lies in the record that was found
-  pub touched_part : (k seen : ℕ) → place_of p t at n ≡ place.Temporary k → touched_of t at n ≡ touched.Yes seen
+  pub touched_part : (k seen : ℕ) → place_of p t at n ≡ Ok (place.Temporary k) → touched_of t at n ≡ Ok (touched.Yes seen)
       → k ≡ property_place t n (count_of t - seen)
   touched_part k seen e f =
       let (m, g, h) = subst (Beside (touched_of t at n)) e beside in
       h ∙ ap (λ a. property_place t n (count_of t - count_in a)) (sym g ∙ f)
     where
-      count_in : Touched → ℕ
-      count_in (touched.Yes m) = m
-      count_in (touched.No m) = m
-      count_in (touched.Refused f) = 0
+      count_in : Looked → ℕ
+      count_in (Ok (touched.Yes m)) = m
+      count_in (Ok (touched.No m)) = m
+      count_in (Err f) = 0
 
 -- ---- no more records are looked at than there are
 module _ (t : List ℕ) (at : Instant) (n : ℕ) where
-  abbrev Few : Touched → Type 0
-  Few (touched.Yes seen) = seen ≤ 256
-  Few (touched.No seen) = seen ≤ 256
-  Few (touched.Refused f) = Unit {0}
+  abbrev Few : Looked → Type 0
+  Few (Ok (touched.Yes seen)) = seen ≤ 256
+  Few (Ok (touched.No seen)) = seen ≤ 256
+  Few (Err f) = Unit {0}
 
   few : Few (touched_of t at n)
   unfolding touched_of touched_by
@@ -196,8 +246,8 @@ module _ (t : List ℕ) (at : Instant) (n : ℕ) where
       omega (arith, looked_most (touches at n) (slices_of t), slices_length t, roomy, room_most (record_size (stride_of t)) t) in
       pick_ind Few (any (touches at n) (slices_of t)) (λ _. most) (λ _. most))
 
-  pub yes_few : (seen : ℕ) → touched_of t at n ≡ touched.Yes seen → seen ≤ 256
+  pub yes_few : (seen : ℕ) → touched_of t at n ≡ Ok (touched.Yes seen) → seen ≤ 256
   yes_few seen e = subst Few e few
 
-  pub no_few : (seen : ℕ) → touched_of t at n ≡ touched.No seen → seen ≤ 256
+  pub no_few : (seen : ℕ) → touched_of t at n ≡ Ok (touched.No seen) → seen ≤ 256
   no_few seen e = subst Few e few

@@ -10,8 +10,7 @@ use lib.Seq.{get_or-take, get_or-drop}
 use Rattle.laws.proofs.Tests.{tests}
 use Rattle.octets.specs.Bytes.{byte_of}
 use Rattle.property.specs.Eight.{mentioned}
-use Rattle.numbers.specs.Numbers.{given}
-use Rattle.slice.specs.Record.{tempdelta, record_size, life_of, Slice, view_of}
+use Rattle.slice.specs.Record.{tempdelta, record_size, Slice, view_of}
 use Rattle.slice.proofs.View.{property_mentioned}
 use Rattle.numbers.specs.declared.Instant.{Instant}
 use Rattle.history.specs.Snapshot.{valid}
@@ -46,15 +45,6 @@ module _ (stride : ℕ) (r : List ℕ) where
         first_byte (32 + q * stride)
             (λ e. empty q e l),
       )
-
-  -- parts 8 and 9 are the life begin and the life end
-  pub tells_begin : given (life_of r).begin ≡ tells 8 (view_of stride r)
-  unfolding tells view_of
-  tells_begin = refl
-
-  pub tells_end : given (life_of r).end ≡ tells 9 (view_of stride r)
-  unfolding tells view_of
-  tells_end = refl
 
 -- whether a TEMPDELTA is valid is seen from its own record
 pub valid_holding : (t : Instant) (d : Slice) → holding tempdelta t d ≡ valid t d

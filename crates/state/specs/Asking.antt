@@ -1,18 +1,17 @@
 -- The questions about an instant: their refusals in order, and their answers (document 01, "Refusal numbers" and "State at an
 -- instant t"). Assumes nothing.
-use Rattle.std.specs.Prelude.{ℕ, ◌+◌, ◌*◌, ◌≡◌, Bool, not, ◌||◌, List, [], ◌∷◌, ◌++◌, map, length, take, drop, eqb, ltb}
+use Rattle.std.specs.Prelude.{ℕ, ◌+◌, ◌*◌, ◌≡◌, Bool, not, ◌||◌, List, [], ◌∷◌, ◌++◌, map, length, take, drop, eqb, ltb, Result}
+use Rattle.std.specs.Prelude.{Ok, Err}
 use Rattle.std.proofs.Math.Option.{Option, none, some}
 use Rattle.std.specs.Borrow.{Bor}
 use Rattle.laws.specs.Lists.{first}
 use Rattle.laws.specs.Refusals.{Test, test, refuse}
-use Rattle.laws.specs.Replies.{Reply, accepted_as}
+use Rattle.laws.specs.Replies.{Reply, refused_with, accepted_as}
 use Rattle.octets.specs.Bytes.{same_bytes}
 use Rattle.numbers.specs.Numbers.{is_none}
 use Rattle.numbers.specs.declared.Instant.{Instant}
 use Rattle.slice.specs.Record.{record_size, key_of, same_key, Slice, view_of}
-use Rattle.slice.specs.Check.{refusal_reply, refused}
-use Rattle.slice.specs.declared.check.Checked.{Checked}
-use Rattle.slice.specs.declared.check.Checked.TheVariants.{Sound}
+use Rattle.slice.specs.Check.{Checked, refused}
 use Rattle.table.specs.Header.{feature_of, stride_of, records_of}
 use Rattle.table.specs.Rules.{table_tests, ruling}
 use Rattle.table.specs.declared.check.Sides.TheVariants as sides
@@ -21,8 +20,6 @@ use Rattle.history.specs.Permanent.{Standing, refuses, known, permanent_at}
 use Rattle.history.specs.Snapshot.{passing, snapshot_at, instants}
 use Rattle.history.specs.Source.{line, mentions, last_mention}
 use Rattle.state.specs.Written.{nil_unknown, state_record}
-use Rattle.state.specs.declared.answer.Outcome.{Outcome}
-use Rattle.state.specs.declared.answer.Outcome.TheVariants as outcome
 use Rattle.state.specs.declared.question.Place.{Place}
 use Rattle.state.specs.declared.question.Place.TheVariants as place
 use Rattle.state.specs.declared.question.Source.{Source}
@@ -42,7 +39,7 @@ both_tests p t =
 
 -- the check of both tables by itself
 unfoldable pub check_both : List ℕ → List ℕ → Checked
-check_both p t = refuse refused (both_tests p t) Sound
+check_both p t = refuse refused (both_tests p t) (Ok tt)
 
 -- a buffer that a record of the table does not fit exactly
 unfoldable pub misfits : List ℕ → List ℕ → Bool
@@ -55,12 +52,16 @@ abbrev pub asking_tests : Instant → ℕ → List Test
 asking_tests at property = test 19 (is_none at || ltb 7 property) ∷ []
 
 -- ---- permanent state and snapshot
+-- what writing a state returns: it is written, or the number of the refusal
+abbrev pub Outcome : Type 0
+Outcome = Result Unit ℕ
+
 abbrev pub refused_outcome : ℕ → Outcome
-refused_outcome n = outcome.Refused (record { number = n })
+refused_outcome n = Err n
 
 abbrev pub outcome_of : Standing → Outcome
 outcome_of (refuses n) = refused_outcome n
-outcome_of (known s) = outcome.Written
+outcome_of (known s) = Ok tt
 
 unfoldable pub permanent_state_of : List ℕ → Instant → List ℕ → Outcome
 permanent_state_of p at buffer =
@@ -72,8 +73,8 @@ snapshot_of p t at buffer =
 
 -- in numbers: written, 1
 unfoldable pub outcome_reply : Outcome → Reply
-outcome_reply outcome.Written = accepted_as 1 0
-outcome_reply (outcome.Refused f) = refusal_reply f
+outcome_reply (Ok _) = accepted_as 1 0
+outcome_reply (Err f) = refused_with f
 
 -- the lent buffer after an answer: the record of the state, or as it was
 abbrev pub record_of : ℕ → Instant → Standing → List ℕ → List ℕ
@@ -81,8 +82,8 @@ record_of stride at (refuses n) buffer = buffer
 record_of stride at (known s) buffer = state_record stride at s
 
 abbrev pub buffered : Outcome → ℕ → Instant → Standing → List ℕ → List ℕ
-buffered outcome.Written stride at s buffer = record_of stride at s buffer
-buffered (outcome.Refused f) stride at s buffer = buffer
+buffered (Ok _) stride at s buffer = record_of stride at s buffer
+buffered (Err f) stride at s buffer = buffer
 
 abbrev pub after_state : Outcome → List ℕ → Instant → List ℕ → List ℕ
 after_state o p at buffer = buffered o (stride_of p) at (permanent_at at (slices_of p)) buffer
@@ -91,8 +92,12 @@ abbrev pub after_snapshot : Outcome → List ℕ → List ℕ → Instant → Li
 after_snapshot o p t at buffer = buffered o (stride_of p) at (snapshot_at at (slices_of p) (slices_of t)) buffer
 
 -- ---- one property
-abbrev pub refused_place : ℕ → Place
-refused_place n = place.Refused (record { number = n })
+-- what the property question returns: a place, or the number of the refusal
+abbrev pub Located : Type 0
+Located = Result Place ℕ
+
+abbrev pub refused_place : ℕ → Located
+refused_place n = Err n
 
 -- where property n of a slice begins in the table that holds it: kind and sequence number tell the record
 unfoldable pub place_in : List ℕ → ℕ → Slice → ℕ
@@ -101,45 +106,48 @@ place_in t n s =
     (stride_of t) + 32 + n * stride_of t
 
 -- in the table whose record mentioned it last: TEMPDELTAs come after what makes the permanent state
-abbrev pub placed : List ℕ → List ℕ → ℕ → Option Slice → Option Slice → Place
-placed p t n (some d) o = place.Temporary (place_in t n d)
-placed p t n none (some d) = place.Permanent (place_in p n d)
-placed p t n none none = place.Unmentioned
+abbrev pub placed : List ℕ → List ℕ → ℕ → Option Slice → Option Slice → Located
+placed p t n (some d) o = Ok (place.Temporary (place_in t n d))
+placed p t n none (some d) = Ok (place.Permanent (place_in p n d))
+placed p t n none none = Ok place.Unmentioned
 
-abbrev pub place_at : List ℕ → List ℕ → Instant → ℕ → Standing → Place
+abbrev pub place_at : List ℕ → List ℕ → Instant → ℕ → Standing → Located
 place_at p t at n (refuses k) = refused_place k
 place_at p t at n (known s) = placed p t n (last_mention n (passing at (slices_of t))) (last_mention n (line at (slices_of p)))
 
-unfoldable pub place_of : List ℕ → List ℕ → Instant → ℕ → Place
+unfoldable pub place_of : List ℕ → List ℕ → Instant → ℕ → Located
 place_of p t at n = refuse refused_place (both_tests p t ++ asking_tests at n) (place_at p t at n (permanent_at at (slices_of p)))
 
 -- in numbers: in the permanent table, 1, and where it begins; in the temporary one, 2, and where it begins; unmentioned, 3
-unfoldable pub place_reply : Place → Reply
-place_reply (place.Permanent at) = accepted_as 1 at
-place_reply (place.Temporary at) = accepted_as 2 at
-place_reply place.Unmentioned = accepted_as 3 0
-place_reply (place.Refused f) = refusal_reply f
+unfoldable pub place_reply : Located → Reply
+place_reply (Ok (place.Permanent at)) = accepted_as 1 at
+place_reply (Ok (place.Temporary at)) = accepted_as 2 at
+place_reply (Ok place.Unmentioned) = accepted_as 3 0
+place_reply (Err f) = refused_with f
 
 -- the refusal, "unmentioned", or which table
-abbrev pub source_of : Place → Source
-source_of (place.Permanent n) = source.Permanent
-source_of (place.Temporary n) = source.Temporary
-source_of place.Unmentioned = source.Unmentioned
-source_of (place.Refused f) = source.Refused f
+abbrev pub Sourced : Type 0
+Sourced = Result Source ℕ
+
+abbrev pub source_of : Located → Sourced
+source_of (Ok (place.Permanent n)) = Ok source.Permanent
+source_of (Ok (place.Temporary n)) = Ok source.Temporary
+source_of (Ok place.Unmentioned) = Ok source.Unmentioned
+source_of (Err f) = Err f
 
 -- in numbers: the permanent table, 1; the temporary one, 2; unmentioned, 3
-unfoldable pub source_reply : Source → Reply
-source_reply source.Permanent = accepted_as 1 0
-source_reply source.Temporary = accepted_as 2 0
-source_reply source.Unmentioned = accepted_as 3 0
-source_reply (source.Refused f) = refusal_reply f
+unfoldable pub source_reply : Sourced → Reply
+source_reply (Ok source.Permanent) = accepted_as 1 0
+source_reply (Ok source.Temporary) = accepted_as 2 0
+source_reply (Ok source.Unmentioned) = accepted_as 3 0
+source_reply (Err f) = refused_with f
 
 -- the bytes of the property at a place; none where the question is refused or nothing mentions it
-abbrev pub bytes_at : List ℕ → List ℕ → Place → List ℕ
-bytes_at p t (place.Permanent at) = take (stride_of p) (drop at p)
-bytes_at p t (place.Temporary at) = take (stride_of t) (drop at t)
-bytes_at p t place.Unmentioned = []
-bytes_at p t (place.Refused f) = []
+abbrev pub bytes_at : List ℕ → List ℕ → Located → List ℕ
+bytes_at p t (Ok (place.Permanent at)) = take (stride_of p) (drop at p)
+bytes_at p t (Ok (place.Temporary at)) = take (stride_of t) (drop at t)
+bytes_at p t (Ok place.Unmentioned) = []
+bytes_at p t (Err f) = []
 
 -- where a part of lent bytes points that begins at a place in them
 abbrev pub points_into : Bor (List ℕ) → ℕ → ℕ × ℕ
@@ -147,19 +155,19 @@ points_into s at = (s.ref_ptr.0, at + s.ref_ptr.1)
 
 -- the part that the property question hands back: where it points, and its bytes. Without bytes it is at
 -- the permanent table's front
-abbrev pub handed : Place → Bor (List ℕ) → Bor (List ℕ) → (ℕ × ℕ) × List ℕ
-handed (place.Permanent at) p t = (points_into p at, bytes_at p.now t.now (place.Permanent at))
-handed (place.Temporary at) p t = (points_into t at, bytes_at p.now t.now (place.Temporary at))
-handed place.Unmentioned p t = (points_into p 0, bytes_at p.now t.now place.Unmentioned)
-handed (place.Refused f) p t = (points_into p 0, bytes_at p.now t.now (place.Refused f))
+abbrev pub handed : Located → Bor (List ℕ) → Bor (List ℕ) → (ℕ × ℕ) × List ℕ
+handed (Ok (place.Permanent at)) p t = (points_into p at, bytes_at p.now t.now (Ok (place.Permanent at)))
+handed (Ok (place.Temporary at)) p t = (points_into t at, bytes_at p.now t.now (Ok (place.Temporary at)))
+handed (Ok place.Unmentioned) p t = (points_into p 0, bytes_at p.now t.now (Ok place.Unmentioned))
+handed (Err f) p t = (points_into p 0, bytes_at p.now t.now (Err f))
 
 -- the bytes b, of a property in a snapshot, are those at the place that the property question tells; nil, unknown where nothing
 -- mentions it
-abbrev pub Tells : List ℕ → List ℕ → List ℕ → Place → Type 0
-Tells p t b (place.Permanent k) = b ≡ bytes_at p t (place.Permanent k)
-Tells p t b (place.Temporary k) = b ≡ bytes_at p t (place.Temporary k)
-Tells p t b place.Unmentioned = b ≡ nil_unknown (stride_of p)
-Tells p t b (place.Refused f) = ⊥
+abbrev pub Tells : List ℕ → List ℕ → List ℕ → Located → Type 0
+Tells p t b (Ok (place.Permanent k)) = b ≡ bytes_at p t (Ok (place.Permanent k))
+Tells p t b (Ok (place.Temporary k)) = b ≡ bytes_at p t (Ok (place.Temporary k))
+Tells p t b (Ok place.Unmentioned) = b ≡ nil_unknown (stride_of p)
+Tells p t b (Err f) = ⊥
 
 -- `unfolding asking` opens every definition that a question computes by
 unfoldable pub asking : Unit {0}

@@ -1,7 +1,8 @@
 -- What the steps of a question ask and answer. No public promise cites this file. Assumes nothing.
-use Rattle.std.specs.Prelude.{ℕ, zero, suc, ◌+◌, ◌-◌, ◌*◌, ◌≤◌, ◌<◌, ◌≡◌, Bool, true, false, cond, not, ◌&&◌, ◌||◌, List, [], ◌++◌, length, get_or, take, drop, ltb, leb, eqb}
+use Rattle.std.specs.Prelude.{ℕ, zero, suc, ◌+◌, ◌-◌, ◌*◌, ◌≤◌, ◌<◌, ◌≡◌, Bool, true, false, cond, not, ◌&&◌, ◌||◌, List, []}
+use Rattle.std.specs.Prelude.{◌++◌, length, get_or, take, drop, ltb, leb, eqb, Result, Ok, Err}
 use Rattle.std.proofs.Math.Option.{Option, none, some}
-use Rattle.laws.specs.Keyed.{Rising}
+use Rattle.laws.specs.Keyed.{In, Rising}
 use Rattle.laws.specs.Refusals.{refuse}
 use Rattle.numbers.specs.Numbers as numbers
 use Rattle.numbers.specs.Numbers.{is_none, given, before, at_most, same_instant}
@@ -14,20 +15,17 @@ use Rattle.table.specs.Steps.{Whole}
 use Rattle.history.specs.Counted.{counts, holds, slice_key}
 use Rattle.history.specs.Period.{begin_of}
 use Rattle.history.specs.Parts.{begun, tells, Placed, pass_from}
+use Rattle.history.specs.Source.{last_mention}
 use Rattle.history.specs.Permanent as State
 use Rattle.history.specs.Permanent.{Turn, turn_less}
 use Rattle.state.specs.Written.{nil_unknown}
-use Rattle.state.specs.Asking.{slices_of, writing_tests, refused_outcome, outcome_of}
-use Rattle.state.specs.declared.answer.Outcome.{Outcome}
+use Rattle.state.specs.Asking.{slices_of, writing_tests, refused_outcome, outcome_of, Outcome, Located}
 use Rattle.state.specs.declared.mention.Mark.{Mark}
-use Rattle.state.specs.declared.question.Place.{Place}
 use Rattle.state.specs.declared.question.Place.TheVariants as place
 use Rattle.state.specs.declared.anchor.Few.{Few}
 use Rattle.state.specs.declared.anchor.Few.TheVariants.{Zero, One, More}
 use Rattle.state.specs.declared.anchor.Start.{Start}
 use Rattle.state.specs.declared.front.Bases.{Bases}
-use Rattle.state.specs.declared.anchor.Standing.{Standing}
-use Rattle.state.specs.declared.anchor.Standing.TheVariants.{From, Refused}
 
 -- ---- a table that is walked
 -- its count is within its room, and its slices rise
@@ -44,6 +42,19 @@ pub record Stored (t : List ℕ) (i : ℕ) : Type 0 where
 -- behind the check of its tables: 19, 23, and then the standing
 abbrev pub left_of : List ℕ → Instant → List ℕ → State.Standing → Outcome
 left_of p at buffer s = refuse refused_outcome (writing_tests p at buffer) (outcome_of s)
+
+-- ---- slices
+-- the slice that a record of a table says, by its place; by its place and one
+abbrev pub slice_here : List ℕ → ℕ → Slice
+slice_here t i = view_of (stride_of t) (record_at (record_size (stride_of t)) i t)
+
+abbrev pub slice_no : List ℕ → ℕ → Option Slice
+slice_no t zero = none
+slice_no t (suc i) = some (slice_here t i)
+
+-- it gives no life times
+abbrev pub Lifeless : Slice → Type 0
+Lifeless d = (is_none d.life.begin ≡ true) × (is_none d.life.end ≡ true)
 
 -- ---- mentions
 -- no mention yet
@@ -162,11 +173,15 @@ life_at size t (suc i) = life_of (record_at size i t)
 abbrev pub start_at : Bool → ℕ → List ℕ → Start
 start_at based i r = record { based = based; place = i; begin = (period_of r).begin; sequence = sequence_of r }
 
+-- the anchor of a state that is known, or the number of the refusal
+abbrev pub Standing : Type 0
+Standing = Result Start ℕ
+
 abbrev pub refused_standing : ℕ → Standing
-refused_standing n = Refused (record { number = n })
+refused_standing n = Err n
 
 unfoldable pub unless_ended : Instant → Instant → Start → Standing
-unless_ended t end s = cond (given end && at_most end t) (refused_standing 22) (From s)
+unless_ended t end s = cond (given end && at_most end t) (refused_standing 22) (Ok s)
 
 -- from the record at a place, with the latest mention of a life end
 unfoldable pub found_from : Instant → List ℕ → Mark → Bool → ℕ → Standing
@@ -175,6 +190,11 @@ found_from t p m based i =
     let r = record_at size i p in
     let s = start_at based i r in
     unless_ended t (life_at size p (origin_of s (tells 9 (view_of (stride_of p) r)) m)).end s
+
+-- `unfolding settling` opens what a standing from a record computes by
+unfoldable pub settling : Unit {0}
+unfolding found_from unless_ended
+settling = tt
 
 abbrev pub standing_of : Instant → List ℕ → Few → Few → List Mark → Standing
 standing_of t p Zero Zero ms = refused_standing 20
@@ -236,13 +256,21 @@ pub record Ready (buffer p t : List ℕ) (s : Start) (ms : List Mark) (os : List
   pub below : Known (count_of p) (λ q. (get_or ms q nothing).from)
   pub above : Known (count_of t) (λ q. get_or os q 0)
 
+-- slices that come on a state: the last of them that mentions property n is the one of the place and one that is told for it; they
+-- have eight properties, and give no life times
+pub record Laid (t : List ℕ) (os : List ℕ) (l : List Slice) : Type 0 where
+  pub last : (n : ℕ) → n < 8 → last_mention n l ≡ slice_no t (get_or os n 0)
+  pub eight : (d : Slice) → In d l → length d.properties ≡ 8
+  pub lifeless : (d : Slice) → In d l → Lifeless d
+
 -- ---- where a property begins
 -- property n of a record, by the record's place and one
 abbrev pub place_from : List ℕ → ℕ → ℕ → ℕ
 place_from t from n = 32 + (from - 1) * record_size (stride_of t) + 32 + n * stride_of t
 
 -- by the latest mention in each table
-unfoldable pub placed_by : List ℕ → List ℕ → Start → Mark → ℕ → ℕ → Place
+unfoldable pub placed_by : List ℕ → List ℕ → Start → Mark → ℕ → ℕ → Located
 placed_by p t s under over n =
     let k = origin_of s (tells n (view_of (stride_of p) (record_at (record_size (stride_of p)) s.place p))) under in
-    cond (eqb over 0) (cond (eqb k 0) place.Unmentioned (place.Permanent (place_from p k n))) (place.Temporary (place_from t over n))
+    cond (eqb over 0) (cond (eqb k 0) (Ok place.Unmentioned) (Ok (place.Permanent (place_from p k n))))
+    (Ok (place.Temporary (place_from t over n)))

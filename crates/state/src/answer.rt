@@ -1,99 +1,110 @@
 // The permanent state and the snapshot, written as a record.
-ghost use Rattle.std.specs.Prelude.{◌≡◌};
-ghost use Rattle.state.specs.Asking.{check_both, permanent_state_of, snapshot_of};
-ghost use Rattle.state.specs.Asking.{outcome_reply, after_state, after_snapshot};
+ghost use Rattle.std.specs.Prelude.{◌≡◌, List, length, get_or};
+ghost use Rattle.slice.specs.Record.{Slice};
+ghost use Rattle.slice.specs.Refusing.{told};
+ghost use Rattle.table.specs.Header.{count_of, stride_of};
+ghost use Rattle.table.specs.Steps.{Whole};
+ghost use Rattle.history.specs.Permanent.{permanent_at};
+ghost use Rattle.history.specs.Snapshot.{overlaid};
+ghost use Rattle.state.specs.Asking.{slices_of, check_both, permanent_state_of, snapshot_of};
+ghost use Rattle.state.specs.Asking.{outcome_reply, buffered, after_state, after_snapshot};
+ghost use Rattle.state.specs.Steps.{Walkable, Known, Laid, left_of};
 
-use crate::anchor::{Standing, settle};
+use crate::anchor::settle;
 use crate::overlay::overlay;
 use crate::survey::survey_permanent;
 use crate::writing::put_state;
 use numbers::Instant;
 use octets::same;
-use slice::{Checked, Refusal, refusals};
+use slice::Refusal;
 use table::{Sides, check_table, record_size};
-
-// What a question answers that writes a record.
-#[derive(Clone, Copy)]
-pub enum Outcome {
-    Written,
-    Refused(Refusal),
-}
 
 // The check of a permanent and a temporary table: 1 to 7 of each, then 8 where they name different
 // features.
-pub(crate) fn check_both(permanent: &[u8], temporary: &[u8]) -> Checked
-    ensures { result ≡ check_both permanent.now temporary.now }
+#[tactic(auto, using(crate::proofs::Stages::checking_both))]
+pub(crate) fn check_both(permanent: &[u8], temporary: &[u8]) -> Result<(), Refusal>
+    ensures { told result ≡ check_both permanent.now temporary.now }
 {
-    if let Checked::Refused(refusal) = check_table(permanent, Sides::Permanent) {
-        return Checked::Refused(refusal);
-    }
-    if let Checked::Refused(refusal) = check_table(temporary, Sides::Temporary) {
-        return Checked::Refused(refusal);
-    }
+    check_table(permanent, Sides::Permanent)?;
+    check_table(temporary, Sides::Temporary)?;
     if !same(&permanent[8..24], &temporary[8..24]) {
-        return Checked::Refused(refusals::DIFFERENT_FEATURES);
+        return Err(Refusal::DifferentFeatures);
     }
-    Checked::Sound
+    Ok(())
+}
+
+// Behind the check of the tables: writes the state at an instant, with the properties that stand in the
+// temporary table. Refused, with every byte as it was: 19, 23, and then as the state stands.
+#[tactic(auto, using(crate::proofs::Stages::writing), unfolding(crate::specs::Asking::misfits))]
+fn write_state(
+    permanent: &[u8],
+    temporary: &[u8],
+    instant: Instant,
+    record: &mut [u8],
+    passing: [usize; 8],
+) -> Result<(), Refusal>
+    requires tables { Walkable permanent.now × Whole temporary.now }
+    requires places { (length passing ≡ 8) × Known (count_of temporary.now) (λ q. get_or passing q 0) }
+    ensures answer { told result
+        ≡ left_of permanent.now instant «record».old (permanent_at instant (slices_of permanent.now)) }
+    ensures buffer { (l : List Slice) → Laid temporary.now passing l → «record».new
+        ≡ buffered (told result) (stride_of permanent.now) instant
+        (overlaid l (permanent_at instant (slices_of permanent.now))) «record».old }
+{
+    if instant.is_none() {
+        return Err(Refusal::InstantOrProperty);
+    }
+    if record.len() != record_size(permanent) {
+        return Err(Refusal::BufferSize);
+    }
+    let found = survey_permanent(permanent, instant, 0, 8);
+    let start = settle(permanent, instant, found)?;
+    put_state(
+        record,
+        permanent,
+        temporary,
+        instant,
+        start,
+        found.latest,
+        passing,
+    );
+    Ok(())
 }
 
 // Writes the permanent state at an instant into a record of the table's size. Refused, with every byte as
 // it was: 1 to 7 for the table, 19 for no instant, 23 for a record of another size, 21 for two anchors, 20
 // where no state is known, 22 where the feature is withdrawn.
-pub fn permanent_state(permanent: &[u8], instant: Instant, record: &mut [u8]) -> Outcome
-    ensures answer { outcome_reply result ≡ outcome_reply (permanent_state_of permanent.now instant «record».old) }
-    ensures buffer { «record».new ≡ after_state result permanent.now instant «record».old }
+#[tactic(auto, using(crate::proofs::Stages::asking_state))]
+pub fn permanent_state(permanent: &[u8], instant: Instant, record: &mut [u8]) -> Result<(), Refusal>
+    ensures answer { outcome_reply (told result) ≡ outcome_reply (permanent_state_of permanent.now instant «record».old) }
+    ensures buffer { «record».new ≡ after_state (told result) permanent.now instant «record».old }
 {
-    if let Checked::Refused(refusal) = check_table(permanent, Sides::Permanent) {
-        return Outcome::Refused(refusal);
-    }
-    if instant.is_none() {
-        return Outcome::Refused(refusals::INSTANT_OR_PROPERTY);
-    }
-    if record.len() != record_size(permanent) {
-        return Outcome::Refused(refusals::BUFFER_SIZE);
-    }
-    let found = survey_permanent(permanent, instant, 0, 8);
-    match settle(permanent, instant, found) {
-        Standing::Refused(refusal) => Outcome::Refused(refusal),
-        Standing::From(start) => {
-            let mentions = found.latest;
-            put_state(
-                record, permanent, permanent, instant, start, mentions, [0; 8],
-            );
-            Outcome::Written
-        }
-    }
+    check_table(permanent, Sides::Permanent)?;
+    write_state(permanent, permanent, instant, record, [0; 8])
 }
 
 // Writes the snapshot at an instant into a record of the tables' size: the permanent state with the
 // TEMPDELTAs that are valid then. Refused, with every byte as it was: 1 to 7 for the permanent table, 1 to 7
 // for the temporary one, 8 for different features, 19 for no instant, 23 for a record of another size, 21
 // for two anchors, 20 where no state is known, 22 where the feature is withdrawn.
-pub fn snapshot(permanent: &[u8], temporary: &[u8], instant: Instant, record: &mut [u8]) -> Outcome
-    ensures answer { outcome_reply result
+#[tactic(auto, using(crate::proofs::Stages::asking_snapshot))]
+pub fn snapshot(
+    permanent: &[u8],
+    temporary: &[u8],
+    instant: Instant,
+    record: &mut [u8],
+) -> Result<(), Refusal>
+    ensures answer { outcome_reply (told result)
         ≡ outcome_reply (snapshot_of permanent.now temporary.now instant «record».old) }
-    ensures buffer { «record».new ≡ after_snapshot result permanent.now temporary.now instant
+    ensures buffer { «record».new ≡ after_snapshot (told result) permanent.now temporary.now instant
         «record».old }
 {
-    if let Checked::Refused(refusal) = check_both(permanent, temporary) {
-        return Outcome::Refused(refusal);
-    }
-    if instant.is_none() {
-        return Outcome::Refused(refusals::INSTANT_OR_PROPERTY);
-    }
-    if record.len() != record_size(permanent) {
-        return Outcome::Refused(refusals::BUFFER_SIZE);
-    }
-    let found = survey_permanent(permanent, instant, 0, 8);
-    match settle(permanent, instant, found) {
-        Standing::Refused(refusal) => Outcome::Refused(refusal),
-        Standing::From(start) => {
-            let mentions = found.latest;
-            let passing = overlay(temporary, instant);
-            put_state(
-                record, permanent, temporary, instant, start, mentions, passing,
-            );
-            Outcome::Written
-        }
-    }
+    check_both(permanent, temporary)?;
+    write_state(
+        permanent,
+        temporary,
+        instant,
+        record,
+        overlay(temporary, instant),
+    )
 }

@@ -34,72 +34,54 @@ pub struct Front {
 fn no_base() -> Bases
     ensures { result ≡ no_base }
 {
-    let fixed = Few::Zero;
-    let endless = Few::Zero;
-    let last = Instant(0);
     Bases {
-        fixed,
-        last,
-        endless,
+        fixed: Few::Zero,
+        last: Instant(0),
+        endless: Few::Zero,
     }
 }
 
 // Whether a record is a BASELINE that is not cancelled and has begun by an instant.
+#[tactic(auto, unfolding(history::specs::Parts::begun, slice::specs::Record::view_of))]
 fn is_begun(record: &[u8], instant: Instant) -> bool
     ensures { (stride : ℕ) → result ≡ begun instant (view_of stride «record».now) }
 {
-    if !is_counted(record, BASELINE) {
-        return false;
-    }
-    let period = period_of(record);
-    let begin = period.begin;
-    begin.at_most(instant)
+    is_counted(record, BASELINE) && period_of(record).begin.at_most(instant)
 }
 
 // What a begin leaves: it closes those without an end that began before it.
-#[tactic(auto, using(crate::proofs::Bases::closed_later, crate::proofs::Bases::closed_not))]
+#[tactic(auto, unfolding(crate::specs::Steps::closed_by))]
 fn closed_by(bases: Bases, begin: Instant) -> Bases
     ensures { result ≡ closed_by begin bases }
 {
-    let last = bases.last;
-    if last.precedes(begin) {
-        let fixed = bases.fixed;
-        let endless = Few::Zero;
+    if bases.last.precedes(begin) {
         return Bases {
-            fixed,
             last: begin,
-            endless,
+            endless: Few::Zero,
+            ..bases
         };
     }
     bases
 }
 
 // With one that has begun by an instant: it holds by its own end, or without an end from the last begin on.
+#[tactic(auto, unfolding(crate::specs::Steps::held_with))]
 fn held_with(bases: Bases, period: Period, place: usize, instant: Instant) -> Bases
     ensures { result ≡ held_with instant place period bases }
 {
-    let begin = period.begin;
-    let end = period.end;
-    let fixed = bases.fixed;
-    let last = bases.last;
-    let endless = bases.endless;
-    if !instant.precedes(end) {
+    if !instant.precedes(period.end) {
         return bases;
     }
-    if !end.is_none() {
-        let fixed = tallied(fixed, place);
+    if !period.end.is_none() {
         return Bases {
-            fixed,
-            last,
-            endless,
+            fixed: tallied(bases.fixed, place),
+            ..bases
         };
     }
-    if begin.is(last) {
-        let endless = tallied(endless, place);
+    if period.begin.is(bases.last) {
         return Bases {
-            fixed,
-            last,
-            endless,
+            endless: tallied(bases.endless, place),
+            ..bases
         };
     }
     bases
@@ -109,16 +91,9 @@ fn held_with(bases: Bases, period: Period, place: usize, instant: Instant) -> Ba
 pub(crate) fn together(bases: Bases) -> Few
     ensures { result ≡ join_few bases.fixed bases.endless }
 {
-    let fixed = bases.fixed;
-    let endless = bases.endless;
-    match fixed {
-        Few::Zero => endless,
-        Few::One(_) => match endless {
-            Few::Zero => fixed,
-            Few::One(_) => Few::More,
-            Few::More => Few::More,
-        },
-        Few::More => Few::More,
+    match (bases.fixed, bases.endless) {
+        (Few::Zero, few) | (few, Few::Zero) => few,
+        _ => Few::More,
     }
 }
 
@@ -132,17 +107,15 @@ pub(crate) fn front_of(permanent: &[u8], instant: Instant) -> Front
     let size = record_size(permanent);
     let count = count_of(permanent) as usize;
     let mut bases = no_base();
-    let mut i = 0;
-    while i < count {
-        let record = record_at(permanent, size, i);
+    for place in 0..count {
+        let record = record_at(permanent, size, place);
         if BASELINE < byte(record, 0) {
-            return Front { bases, end: i };
+            return Front { bases, end: place };
         }
         if is_begun(record, instant) {
             let period = period_of(record);
-            bases = held_with(closed_by(bases, period.begin), period, i, instant);
+            bases = held_with(closed_by(bases, period.begin), period, place, instant);
         }
-        i += 1;
     }
-    Front { bases, end: i }
+    Front { bases, end: count }
 }

@@ -14,7 +14,7 @@ mod survey;
 mod touching;
 mod writing;
 
-pub use answer::{Outcome, permanent_state, snapshot};
+pub use answer::{permanent_state, snapshot};
 pub use looking::Touched;
 pub use question::{Place, Source, locate, property, source_of};
 pub use touching::touched;

@@ -33,11 +33,11 @@ pub(crate) fn no_mention() -> Latest
         instant: Instant(0),
         sequence: SequenceNumber(0),
     };
-    let marks = [none; 10];
-    Latest { marks }
+    Latest { marks: [none; 10] }
 }
 
 // Whether a record of `stride` bytes a property mentions property n.
+#[tactic(auto, using(laws::proofs::Pieces::piece_within, crate::proofs::Views::tells_property))]
 pub(crate) fn mentions(record: &[u8], stride: usize, n: usize) -> bool
     requires { (length «record».now ≡ record_size stride) × (n < 8) }
     ensures { result ≡ tells n (view_of stride «record».now) }
@@ -46,36 +46,28 @@ pub(crate) fn mentions(record: &[u8], stride: usize, n: usize) -> bool
 }
 
 // Whether a record of `stride` bytes a property tells a part.
+#[tactic(auto, unfolding(history::specs::Parts::tells, slice::specs::Record::view_of))]
 pub(crate) fn gives(record: &[u8], stride: usize, part: usize) -> bool
     requires { (length «record».now ≡ record_size stride) × (part < 10) }
     ensures { result ≡ tells part (view_of stride «record».now) }
 {
-    if part < 8 {
-        return mentions(record, stride, part);
+    match part {
+        0..8 => mentions(record, stride, part),
+        8 => !life_of(record).begin.is_none(),
+        _ => !life_of(record).end.is_none(),
     }
-    let life = life_of(record);
-    let born = life.begin;
-    let gone = life.end;
-    if part == 8 {
-        return !born.is_none();
-    }
-    !gone.is_none()
 }
 
 // Of two mentions the later one, where the new one is one at all.
+#[tactic(auto, unfolding(crate::specs::Steps::later_of, history::specs::Permanent::turn_less, laws::specs::Orders::lex_less))]
 pub(crate) fn later(old: Mark, new: Mark, yes: bool) -> Mark
     ensures { result ≡ later_of yes new old }
 {
-    if !yes {
-        return old;
+    let behind = old.instant.precedes(new.instant)
+        | (old.instant.is(new.instant) & old.sequence.precedes(new.sequence));
+    if yes && ((old.from == 0) | behind) {
+        new
+    } else {
+        old
     }
-    let then = old.instant;
-    let here = new.instant;
-    let first = old.sequence;
-    let second = new.sequence;
-    let behind = then.precedes(here) | (then.is(here) & first.precedes(second));
-    if (old.from == 0) | behind {
-        return new;
-    }
-    old
 }

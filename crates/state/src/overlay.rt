@@ -14,6 +14,7 @@ use table::{count_of, record_at, record_size, stride_of};
 // The one pass over a temporary table: of each property the last TEMPDELTA that is valid and mentions it, by
 // its place and one; 0 where there is none. They stand in rising order of sequence number, so that none is
 // compared with another.
+#[tactic(auto, using(crate::proofs::Turns::sized_at))]
 pub(crate) fn overlay(temporary: &[u8], instant: Instant) -> [usize; 8]
     requires { Whole temporary.now }
     ensures { (length result ≡ 8)
@@ -23,22 +24,17 @@ pub(crate) fn overlay(temporary: &[u8], instant: Instant) -> [usize; 8]
     let size = record_size(temporary);
     let count = count_of(temporary) as usize;
     let mut places = [0usize; 8];
-    let mut i = 0;
-    while i < count {
+    for i in 0..count {
         let record = record_at(temporary, size, i);
         if is_holding(record, TEMPDELTA, instant) {
-            let mut n = 0;
-            while n < 8 {
-                let before = places[n];
-                places[n] = if mentions(record, stride, n) {
+            for (n, place) in places.iter_mut().enumerate() {
+                *place = if mentions(record, stride, n) {
                     i + 1
                 } else {
-                    before
+                    *place
                 };
-                n += 1;
             }
         }
-        i += 1;
     }
     places
 }

@@ -26,16 +26,15 @@ pub struct Survey {
 }
 
 // Whether a record is one of a kind that is not cancelled.
+#[tactic(auto, unfolding(history::specs::Counted::counts, slice::specs::Record::view_of))]
 pub(crate) fn is_counted(record: &[u8], kind: u8) -> bool
     ensures { (stride : ℕ) → result ≡ counts kind (view_of stride «record».now) }
 {
-    if byte(record, 0) != kind {
-        return false;
-    }
-    !is_cancelled(record)
+    byte(record, 0) == kind && !is_cancelled(record)
 }
 
 // Whether a record is one of a kind that is not cancelled, with an instant in its period.
+#[tactic(auto, unfolding(crate::specs::Steps::holding, history::specs::Counted::holds, slice::specs::Record::view_of))]
 pub(crate) fn is_holding(record: &[u8], kind: u8, instant: Instant) -> bool
     ensures { (stride : ℕ) → result ≡ holding kind instant (view_of stride «record».now) }
 {
@@ -43,36 +42,31 @@ pub(crate) fn is_holding(record: &[u8], kind: u8, instant: Instant) -> bool
         return false;
     }
     let period = period_of(record);
-    let begin = period.begin;
-    let end = period.end;
-    begin.at_most(instant) & instant.precedes(end)
+    period.begin.at_most(instant) & instant.precedes(period.end)
 }
 
 // Whether a record is a PERMDELTA with its instant from one up to and with another.
+#[tactic(auto, unfolding(history::specs::Parts::due, history::specs::Counted::holds, slice::specs::Record::view_of))]
 fn is_due(record: &[u8], since: Instant, instant: Instant) -> bool
     ensures { (stride : ℕ) → result ≡ due since instant (view_of stride «record».now) }
 {
     if !is_counted(record, PERMDELTA) {
         return false;
     }
-    let period = period_of(record);
-    let begin = period.begin;
+    let begin = period_of(record).begin;
     since.at_most(begin) & begin.at_most(instant)
 }
 
 // The mention that a PERMDELTA makes: it applies at its instant.
+#[tactic(auto, unfolding(slice::specs::Record::view_of))]
 fn mark_of(record: &[u8], place: usize) -> Mark
     requires { place ≤ 256 }
     ensures { (stride : ℕ) → result ≡ mark_of place (view_of stride «record».now) }
 {
-    let period = period_of(record);
-    let key = key_of(record);
-    let instant = period.begin;
-    let sequence = key.sequence;
     Mark {
         from: place + 1,
-        instant,
-        sequence,
+        instant: period_of(record).begin,
+        sequence: key_of(record).sequence,
     }
 }
 
@@ -81,18 +75,14 @@ fn since_of(permanent: &[u8], bases: Few) -> Instant
     ensures { result ≡ since_of permanent.now bases }
 {
     match bases {
-        Few::Zero => Instant(0),
-        Few::One(place) => {
-            let size = record_size(permanent);
-            let period = period_of(record_at(permanent, size, place));
-            period.begin
-        }
-        Few::More => Instant(0),
+        Few::One(place) => period_of(record_at(permanent, record_size(permanent), place)).begin,
+        Few::Zero | Few::More => Instant(0),
     }
 }
 
 // The one pass over a permanent table, for the properties from one up to another and the life times: its
 // BASELINEs, and then the changes behind them.
+#[tactic(auto, using(crate::proofs::Turns::sized_at))]
 pub(crate) fn survey_permanent(permanent: &[u8], instant: Instant, from: usize, to: usize) -> Survey
     requires { Walkable permanent.now × ((from ≤ to) × (to ≤ 8)) }
     ensures bases { result.bases
@@ -111,23 +101,19 @@ pub(crate) fn survey_permanent(permanent: &[u8], instant: Instant, from: usize, 
     let since = since_of(permanent, bases);
     let mut openings = Few::Zero;
     let mut latest = no_mention();
-    let mut i = front.end;
-    while i < count {
+    for i in front.end..count {
         let record = record_at(permanent, size, i);
         if is_due(record, since, instant) {
             if gives(record, stride, 8) {
                 openings = tallied(openings, i);
             }
             let new = mark_of(record, i);
-            let mut part = from;
-            while part < to {
+            for part in from..to {
                 latest.marks[part] = later(latest.marks[part], new, mentions(record, stride, part));
-                part += 1;
             }
             latest.marks[8] = later(latest.marks[8], new, gives(record, stride, 8));
             latest.marks[9] = later(latest.marks[9], new, gives(record, stride, 9));
         }
-        i += 1;
     }
     Survey {
         bases,

@@ -14,6 +14,7 @@ use slice::Life;
 use table::{record_at, record_size, stride_of};
 
 // The life times of a state: of the records that tell them last.
+#[tactic(auto, using(crate::proofs::Turns::anchor_at))]
 fn life_of_state(permanent: &[u8], start: Start, mentions: Latest) -> Life
     requires { (length mentions.marks ≡ 10) × Stored permanent.now start.place }
     ensures { result ≡ life_from permanent.now start mentions.marks }
@@ -21,13 +22,12 @@ fn life_of_state(permanent: &[u8], start: Start, mentions: Latest) -> Life
     let stride = stride_of(permanent);
     let size = record_size(permanent);
     let anchor = record_at(permanent, size, start.place);
-    let eighth = mentions.marks[8];
-    let ninth = mentions.marks[9];
-    let born = life_at(permanent, size, origin(anchor, stride, start, eighth, 8));
-    let gone = life_at(permanent, size, origin(anchor, stride, start, ninth, 9));
-    let begin = born.begin;
-    let end = gone.end;
-    Life { begin, end }
+    let born = origin(anchor, stride, start, mentions.marks[8], 8);
+    let gone = origin(anchor, stride, start, mentions.marks[9], 9);
+    Life {
+        begin: life_at(permanent, size, born).begin,
+        end: life_at(permanent, size, gone).end,
+    }
 }
 
 // Writes the four times of a state: from an instant on, without end, and its life.
@@ -35,13 +35,10 @@ fn put_times(record: &mut [u8], instant: Instant, life: Life)
     requires { 32 ≤ length «record».old }
     ensures { «record».new ≡ pasted «record».old 8 (state_times instant life) }
 {
-    let none = Instant::none();
-    let begin = life.begin;
-    let end = life.end;
     put32(record, 8, instant.0);
-    put32(record, 12, none.0);
-    put32(record, 16, begin.0);
-    put32(record, 20, end.0);
+    put32(record, 12, Instant::none().0);
+    put32(record, 16, life.begin.0);
+    put32(record, 20, life.end.0);
 }
 
 // Writes what comes before the properties.
@@ -56,6 +53,7 @@ fn put_head(record: &mut [u8], instant: Instant, life: Life)
 }
 
 // Writes a property that nothing mentions: nil, unknown.
+#[tactic(auto, using(crate::proofs::Pasting::unknown_cut))]
 fn put_unknown(record: &mut [u8], at: usize, stride: usize)
     requires { (2 ≤ stride) × (stride ≤ 32) }
     ensures { «record».new ≡ pasted «record».old at (nil_unknown stride) }
@@ -63,10 +61,11 @@ fn put_unknown(record: &mut [u8], at: usize, stride: usize)
     let mut unknown = [0u8; 32];
     unknown[0] = 1;
     unknown[1] = 4;
-    put(record, at, &unknown[0..stride]);
+    put(record, at, &unknown[..stride]);
 }
 
 // Writes property n as the record of a place and one says it; nil, unknown where there is no record.
+#[tactic(auto, using(laws::proofs::Pieces::piece_within, crate::proofs::Turns::sized_at))]
 fn put_property(record: &mut [u8], table: &[u8], n: usize, from: usize)
     requires { (n < 8) × (Whole table.now × (from ≤ count_of table.now)) }
     ensures { «record».new
@@ -76,13 +75,14 @@ fn put_property(record: &mut [u8], table: &[u8], n: usize, from: usize)
     let at = 32 + n * stride;
     if from == 0 {
         put_unknown(record, at, stride);
-        return;
+    } else {
+        let source = record_at(table, record_size(table), from - 1);
+        put(record, at, &source[at..at + stride]);
     }
-    let source = record_at(table, record_size(table), from - 1);
-    put(record, at, &source[at..at + stride]);
 }
 
 // Writes property n from the table whose record mentioned it last.
+#[tactic(auto, using(crate::proofs::Turns::anchor_at))]
 fn put_latest(
     record: &mut [u8],
     permanent: &[u8],
@@ -99,12 +99,16 @@ fn put_latest(
 {
     if over != 0 {
         put_property(record, temporary, n, over);
-        return;
+    } else {
+        let stride = stride_of(permanent);
+        let anchor = record_at(permanent, record_size(permanent), start.place);
+        put_property(
+            record,
+            permanent,
+            n,
+            origin(anchor, stride, start, under, n),
+        );
     }
-    let stride = stride_of(permanent);
-    let anchor = record_at(permanent, record_size(permanent), start.place);
-    let from = origin(anchor, stride, start, under, n);
-    put_property(record, permanent, n, from);
 }
 
 // Writes the eight properties.
@@ -121,12 +125,16 @@ fn put_properties(
         ≡ pasted «record».old 32
         (run_of (property_from permanent.now temporary.now start mentions.marks passing) 8) }
 {
-    let mut n = 0;
-    while n < 8 {
-        let under = mentions.marks[n];
-        let over = passing[n];
-        put_latest(record, permanent, temporary, start, under, over, n);
-        n += 1;
+    for n in 0..8 {
+        put_latest(
+            record,
+            permanent,
+            temporary,
+            start,
+            mentions.marks[n],
+            passing[n],
+            n,
+        );
     }
 }
 

@@ -19,18 +19,18 @@ use Rattle.table.specs.Header.{stride1, room_of, written}
 use Rattle.table.specs.Arriving.{record_of, creation_of, created}
 use Rattle.table.specs.Deliveries.{delivered_to, passes, sent_to, Delivers, Agree, pairs_in, records_afresh, holding, table_afresh}
 use Rattle.table.specs.Deliveries.{TableOf}
-use Rattle.table.specs.declared.create.Creation.TheVariants.{Made}
+use Rattle.std.specs.Prelude.{Ok}
 use Rattle.table.proofs.Deliveries.{deliveries, new_room, new_feature, new_written, new_empty, new_sound}
 
 -- the buffer after a new table and the arrivals of slices, in that order
 abbrev pub fed : List ℕ → ℕ → List ℕ → List (List ℕ) → List ℕ
-fed buffer side feature ss = delivered_to (created Made buffer side feature) ss
+fed buffer side feature ss = delivered_to (created (Ok tt) buffer side feature) ss
 
 -- the records that were sent to it
 abbrev pub sent : List ℕ → ℕ → List (List ℕ) → List (List ℕ)
 sent feature side ss = sent_to stride1 feature side ss
 
-module _ (buffer : List ℕ) (side : ℕ) (feature : List ℕ) (named : length feature ≡ 16) (made : creation_of buffer side ≡ Made) where
+module _ (buffer : List ℕ) (side : ℕ) (feature : List ℕ) (named : length feature ≡ 16) (made : creation_of buffer side ≡ Ok tt) where
   -- ANY ORDER: slices of any kind and length, with repeats. Where those that pass agree and their kinds and sequences are no more
   -- than the room, they make the table of what was sent, worked out afresh
   pub any_order : (ss : List (List ℕ)) → Agree (sent feature side ss)
@@ -39,13 +39,13 @@ module _ (buffer : List ℕ) (side : ℕ) (feature : List ℕ) (named : length f
   unfolding records_afresh
   any_order ss agree fit =
       ap (λ (x : List ℕ). delivered_to x ss) (sym (new_empty buffer side feature named made))
-      ∙ deliveries (created Made buffer side feature) (new_sound buffer side feature named made) ss []
+      ∙ deliveries (created (Ok tt) buffer side feature) (new_sound buffer side feature named made) ss []
       (record { good = λ r m. absurd m; up = tt; fits = omega arith })
-      ∙ (λ i. written (created Made buffer side feature)
+      ∙ (λ i. written (created (Ok tt) buffer side feature)
       (delivered key_of key_less same_key correction_of lower_correction
       (new_room buffer side feature named made (record_size stride1) i) []
       (sent_to stride1 (new_feature buffer side feature named made i) side ss)))
-      ∙ ap (written (created Made buffer side feature))
+      ∙ ap (written (created (Ok tt) buffer side feature))
       (delivered_afresh key_of key_less same_key key_order correction_of lower_correction correction_order
       (room_of (record_size stride1) buffer) (sent feature side ss) agree fit)
       ∙ new_written buffer side feature named made (records_afresh (sent feature side ss))

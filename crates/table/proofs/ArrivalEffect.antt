@@ -20,8 +20,7 @@ use Rattle.table.specs.Arriving.{record_of, arrived_at}
 use Rattle.table.specs.declared.check.Sides.{Sides}
 use Rattle.table.specs.declared.check.Sides.TheVariants.{Both}
 use Rattle.table.proofs.Sound.{SoundTable, sound_table}
-use Rattle.table.proofs.SameHeader.{Alike, same_letters, same_side, same_version, same_reserved, written_alike}
-use Rattle.table.proofs.SameHeader.{written_records}
+use Rattle.table.proofs.SameHeader.{Alike, same_letters, same_side, same_version, same_reserved, written_alike, written_records}
 use Rattle.table.proofs.Stays.{good_sized, within, few, stays, made, Filed, left_or_filed}
 
 -- ---- two sound tables that agree in their headers, the count apart, answer the check alike

@@ -10,8 +10,7 @@ use Rattle.laws.proofs.Put.{rising_one, stored_in, stored_none_in}
 use Rattle.octets.proofs.Runs.{same_bytes_lem, bytes_same}
 use Rattle.numbers.specs.Numbers.{lower_correction}
 use Rattle.slice.specs.Record.{record_size, key_of, key_less, same_key}
-use Rattle.slice.specs.Check.{check_slice}
-use Rattle.slice.specs.declared.check.Checked.TheVariants.{Sound}
+use Rattle.slice.specs.Check.{check_slice, sound}
 use Rattle.slice.proofs.Keys.{key_order}
 use Rattle.table.specs.Header.{side_of, feature_of, stride_of, room_of, records_of}
 use Rattle.table.specs.Rules.{check_table}
@@ -53,7 +52,7 @@ module _ (room : ℕ) (r : List ℕ) (rs : List (List ℕ)) (up : Up rs) where
   }
 
 -- THE ANSWERS: where a table passes 1 to 7 and a slice 9 to 16, the answer of the arrival is decided as the table above has it
-pub answers : (t s : List ℕ) → check_table Both t ≡ Sound → check_slice (stride_of t) (feature_of t) (side_of t) s ≡ Sound
+pub answers : (t s : List ℕ) → check_table Both t ≡ sound → check_slice (stride_of t) (feature_of t) (side_of t) s ≡ sound
     → Decided (room_of (record_size (stride_of t)) t) (record_of s) (records_of (record_size (stride_of t)) t) (arrival_of t s)
 answers t s e d =
     rw (slice_passes t s e d)

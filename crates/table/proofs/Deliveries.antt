@@ -20,16 +20,14 @@ use Rattle.octets.proofs.Readers.{be_whole}
 use Rattle.octets.proofs.Runs.{filled_drop}
 use Rattle.numbers.specs.Numbers.{lower_correction}
 use Rattle.slice.specs.Record.{record_size, correction_of, key_of, key_less, same_key}
-use Rattle.slice.specs.Check.{check_slice}
-use Rattle.slice.specs.declared.check.Checked.{Checked}
-use Rattle.slice.specs.declared.check.Checked.TheVariants.{Sound, Refused}
+use Rattle.slice.specs.Check.{check_slice, Checked}
+use Rattle.std.specs.Prelude.{Ok, Err}
 use Rattle.slice.proofs.Sound.{sound_slice}
 use Rattle.table.specs.Header.{lettered, side_of, count_of, feature_of, stride_of, header_of, room_of, records_of, written}
 use Rattle.table.specs.Rules.{fails, in_order, check_table}
 use Rattle.table.specs.Arriving.{record_of, filing_of, changed, filed, arrived_at, creation_of, created}
 use Rattle.table.specs.Deliveries.{delivered_to, sent_to, holding}
 use Rattle.table.specs.declared.check.Sides.TheVariants.{Both}
-use Rattle.table.specs.declared.create.Creation.TheVariants.{Made}
 use Rattle.table.proofs.NewTable.{made_facts}
 use Rattle.table.proofs.Sound.{SoundTable, table_sound}
 use Rattle.table.proofs.SameHeader.{Alike, same_side, same_feature, same_room, written_alike, written_records, written_over}
@@ -64,7 +62,7 @@ module _ (t : List ℕ) (h : SoundTable (stride_of t) Both t) where
     held = written_records t rs h.headed inside (few stride Both t h rs f.good f.fits) size
         (good_sized stride (side_of t) rs f.good)
 
-    sound : check_table Both (written t rs) ≡ Sound
+    sound : check_table Both (written t rs) ≡ Ok tt
     sound = table_sound Both (written t rs) (stays stride Both t h rs f.good f.fits f.up)
 
     -- an arrival there is checked as it would be at t
@@ -72,7 +70,7 @@ module _ (t : List ℕ) (h : SoundTable (stride_of t) Both t) where
         → check_slice stride (feature_of (written t rs)) (side_of (written t rs)) s ≡ check_slice stride (feature_of t) (side_of t) s
     checked s i = check_slice stride (same_feature t (written t rs) alike i) (same_side t (written t rs) alike i) s
 
-    module _ (s : List ℕ) (d : check_slice stride (feature_of t) (side_of t) s ≡ Sound) where
+    module _ (s : List ℕ) (d : check_slice stride (feature_of t) (side_of t) s ≡ Ok tt) where
       abbrev us : List (List ℕ)
       us = arrived key_of key_less same_key correction_of lower_correction room (record_of s) rs
 
@@ -119,19 +117,19 @@ module _ (t : List ℕ) (h : SoundTable (stride_of t) Both t) where
       go : (c : Checked) → check_slice stride (feature_of t) (side_of t) s ≡ c → Delivers ss
           → delivered_to (written t rs) (s ∷ ss) ≡ written t
           (delivered key_of key_less same_key correction_of lower_correction room rs (sent_to stride (feature_of t) (side_of t) (s ∷ ss)))
-      go (Refused x) d more =
+      go (Err x) d more =
           ap (λ (l : List ℕ). delivered_to l ss) (left_by_slice (written t rs) s (sound rs f) x (checked rs f s ∙ d))
           ∙ rw d (more rs f)
-      go Sound d more = ap (λ (l : List ℕ). delivered_to l ss) (taken rs f s d) ∙ rw d (more (us rs f s d) (fitting rs f s d))
+      go (Ok _) d more = ap (λ (l : List ℕ). delivered_to l ss) (taken rs f s d) ∙ rw d (more (us rs f s d) (fitting rs f s d))
 
 -- ---- a new table
 eight_zeros : (x : List ℕ) → filled 0 8 (replicate 8 0 ++ x) 0 ≡ true
 unfolding filled
 eight_zeros x = rw (le-leb (0 + 8) (length (replicate 8 0 ++ x)) (omega (arith, length-append (replicate 8 0) x)))
 
-module _ (b : List ℕ) (side : ℕ) (feature : List ℕ) (l : length feature ≡ 16) (made : creation_of b side ≡ Made) where
+module _ (b : List ℕ) (side : ℕ) (feature : List ℕ) (l : length feature ≡ 16) (made : creation_of b side ≡ Ok tt) where
   abbrev pub new : List ℕ
-  new = created Made b side feature
+  new = created (Ok tt) b side feature
 
   abbrev rest : List ℕ
   rest = drop 32 b

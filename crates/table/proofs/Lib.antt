@@ -23,11 +23,9 @@ pub mod Answers
 pub mod NewTable
 -- a table with other records, from the bytes that are moved and written
 pub mod TableBytes
--- the search by key: the place it ends at, and the record stored there
+-- the search by key: the place it ends at, and what it tells of the record stored there
 pub mod Search
--- the loops over a table's records: what each finds from record i on
+-- the check of the records one after the other, and of neighbours
 pub mod Walks
 -- the records of a table and its bytes, each from the other
 pub mod Records
--- the check of a table and the arrival, one test after the other, as the code makes them
-pub mod Stages

@@ -1,11 +1,11 @@
 -- The new table, written part by part. Assumes nothing.
-use Prim.Native.Nat.{ℕ, ◌+◌, ◌≤◌, ◌<◌}
+use Prim.Native.Nat.{ℕ, ◌+◌, ◌≤◌}
 use mathlib.Core.Path.{◌≡◌, refl, ap, ◌∙◌}
 use mathlib.Core.List.{List, [], ◌∷◌, ◌++◌}
-use mathlib.Core.Bool.{true, false}
+use mathlib.Core.Bool.{true}
 use native.Mathlib.Omega.{arith}
 use lib.ListN.{length, drop, replicate, length-append}
-use borrow.Author.Tests.{lt-ltb, le-ltb, ltb-false, not-false}
+use borrow.Author.Tests.{le-ltb, ltb-false, not-false}
 use Rattle.laws.proofs.Refusals.{given_passed}
 use Rattle.octets.specs.Writing.{pasted}
 use Rattle.octets.proofs.Writing.{pasted_whole, pasted_then}
@@ -13,19 +13,11 @@ use Rattle.table.specs.Header.{header_of}
 use Rattle.table.specs.Rules.{takes}
 use Rattle.table.specs.Arriving.{creation_refused, creation_tests, creation_of}
 use Rattle.table.specs.declared.check.Sides.TheVariants.{Both}
-use Rattle.table.specs.declared.create.Creation.TheVariants.{Made}
+use Rattle.std.specs.Prelude.{Ok}
 
 module _ (t : List ℕ) (side : ℕ) where
-  pub short : length t < 32 → creation_of t side ≡ creation_refused 1
-  unfolding creation_of creation_tests
-  short h = rw (lt-ltb (length t) 32 h)
-
   module _ (h : 32 ≤ length t) where
-    pub sideless : takes Both side ≡ false → creation_of t side ≡ creation_refused 2
-    unfolding creation_of creation_tests
-    sideless e = rw (le-ltb (length t) 32 h, e)
-
-    pub made : takes Both side ≡ true → creation_of t side ≡ Made
+    pub made : takes Both side ≡ true → creation_of t side ≡ Ok tt
     unfolding creation_of creation_tests
     made e = rw (le-ltb (length t) 32 h, e)
 
@@ -46,11 +38,11 @@ module _ (t : List ℕ) (side : ℕ) where
         ∙ ap (λ (n : ℕ). ((front ++ feature) ++ replicate 8 0) ++ drop n t) end
 
 -- what a table that was made tells
-made_apart : (n : ℕ) → creation_refused n ≡ Made → ⊥
+made_apart : (n : ℕ) → creation_refused n ≡ Ok tt → ⊥
 made_apart n e = let z : ◌≡◌ {A = ℕ} 0 1 = cc in omega arith
 
-pub made_facts : (t : List ℕ) (side : ℕ) → creation_of t side ≡ Made → (32 ≤ length t) × (takes Both side ≡ true)
+pub made_facts : (t : List ℕ) (side : ℕ) → creation_of t side ≡ Ok tt → (32 ≤ length t) × (takes Both side ≡ true)
 unfolding creation_of creation_tests
 made_facts t side e =
-    let p = given_passed creation_refused Made made_apart (creation_tests t side) e in
+    let p = given_passed creation_refused (Ok tt) made_apart (creation_tests t side) e in
     (ltb-false _ _ p.0, not-false _ p.1.0)

@@ -1,27 +1,26 @@
--- What a new table and an arrival return is told apart by its numbers. Assumes nothing.
+-- What an arrival returns is told apart by its numbers. Assumes nothing.
 use Prim.Native.Nat.{ℕ, zero, suc}
 use mathlib.Core.Path.{◌≡◌, refl}
-use Rattle.laws.specs.Replies.{Reply}
-use Rattle.laws.proofs.Replies.{lossless}
-use Rattle.slice.proofs.Replies.{read_back}
-use Rattle.table.specs.Arriving.{creation_reply, arrival_reply}
-use Rattle.table.specs.declared.create.Creation.{Creation}
-use Rattle.table.specs.declared.create.Creation.TheVariants as creation
+use Rattle.std.specs.Prelude.{Result, Ok, Err}
+use Rattle.slice.specs.Refusing.{told}
+use Rattle.slice.specs.declared.refusal.Refusal.{Refusal}
+use Rattle.slice.proofs.Replies.{read_back, reply_same, reply_tells}
+use Rattle.table.specs.Arriving.{Creation, creation_reply, Arrived, arrival_reply}
 use Rattle.table.specs.declared.arrival.Arrival.{Arrival}
 use Rattle.table.specs.declared.arrival.Arrival.TheVariants as arrival
 
 -- ---- a new table
-abbrev creation_back : Reply → Creation
-creation_back = read_back creation.Refused (λ k v. creation.Made)
-
-creation_back_lem : (c : Creation) → creation_back (creation_reply c) ≡ c
+creation_back : (c : Creation) → read_back (λ k v. tt) (creation_reply c) ≡ c
 unfolding creation_reply
-creation_back_lem creation.Made = refl
-creation_back_lem (creation.Refused f) = refl
+creation_back (Ok _) = refl
+creation_back (Err n) = refl
 
 -- new tables whose numbers are the same are the same answer
-pub creation_told : (a b : Creation) → creation_reply a ≡ creation_reply b → a ≡ b
-creation_told = lossless creation_reply creation_back creation_back_lem
+pub creation_same : (a b : Creation) → creation_reply a ≡ creation_reply b → a ≡ b
+creation_same = reply_same creation_reply (λ k v. tt) creation_back
+
+pub creation_told : (a b : Result Unit Refusal) → creation_reply (told a) ≡ creation_reply (told b) → a ≡ b
+creation_told = reply_tells creation_reply (λ k v. tt) creation_back
 
 -- ---- an arrival
 abbrev accepted_back : ℕ → ℕ → Arrival
@@ -31,17 +30,17 @@ accepted_back (suc (suc zero)) v = arrival.Replaced
 accepted_back (suc (suc (suc zero))) v = arrival.Superseded
 accepted_back (suc (suc (suc (suc k)))) v = arrival.Repeat
 
-abbrev arrival_back : Reply → Arrival
-arrival_back = read_back arrival.Refused accepted_back
-
-arrival_back_lem : (a : Arrival) → arrival_back (arrival_reply a) ≡ a
+arrival_back : (a : Arrived) → read_back accepted_back (arrival_reply a) ≡ a
 unfolding arrival_reply
-arrival_back_lem arrival.Added = refl
-arrival_back_lem arrival.Replaced = refl
-arrival_back_lem arrival.Superseded = refl
-arrival_back_lem arrival.Repeat = refl
-arrival_back_lem (arrival.Refused f) = refl
+arrival_back (Ok arrival.Added) = refl
+arrival_back (Ok arrival.Replaced) = refl
+arrival_back (Ok arrival.Superseded) = refl
+arrival_back (Ok arrival.Repeat) = refl
+arrival_back (Err n) = refl
 
 -- arrivals whose numbers are the same are the same answer
-pub arrival_told : (a b : Arrival) → arrival_reply a ≡ arrival_reply b → a ≡ b
-arrival_told = lossless arrival_reply arrival_back arrival_back_lem
+pub arrival_same : (a b : Arrived) → arrival_reply a ≡ arrival_reply b → a ≡ b
+arrival_same = reply_same arrival_reply accepted_back arrival_back
+
+pub arrival_told : (a b : Result Arrival Refusal) → arrival_reply (told a) ≡ arrival_reply (told b) → a ≡ b
+arrival_told = reply_tells arrival_reply accepted_back arrival_back

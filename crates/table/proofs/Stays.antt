@@ -20,19 +20,16 @@ use Rattle.laws.proofs.Put.{Kept, arrived_kept}
 use Rattle.octets.specs.Bytes.{same_bytes}
 use Rattle.numbers.specs.Numbers.{lower_correction}
 use Rattle.slice.specs.Record.{record_size, correction_of, key_of, key_less, same_key}
-use Rattle.slice.specs.Check.{check_record, check_slice}
-use Rattle.slice.specs.declared.check.Refusal.{Refusal}
-use Rattle.slice.specs.declared.check.Checked.{Checked}
-use Rattle.slice.specs.declared.check.Checked.TheVariants.{Sound, Refused}
+use Rattle.slice.specs.Check.{check_record, check_slice, Checked}
+use Rattle.std.specs.Prelude.{Ok, Err}
 use Rattle.slice.proofs.Keys.{key_order}
 use Rattle.slice.proofs.Sound.{SoundRecord, sound_record, sound_slice}
 use Rattle.table.specs.Header.{side_of, feature_of, stride_of, room_of, records_of, written}
 use Rattle.table.specs.Rules.{takes, is_refused, fails, in_order, check_table}
-use Rattle.table.specs.Arriving.{record_of, stored_of, filing_of, arrival_of, changed, filed, arrived_at}
+use Rattle.table.specs.Arriving.{record_of, stored_of, filing_of, arrival_of, changed, filed, arrived_at, Arrived}
 use Rattle.table.specs.declared.check.Sides.{Sides}
 use Rattle.table.specs.declared.check.Sides.TheVariants.{Both}
 use Rattle.table.proofs.Records.{room_fits, room_most, records_length}
-use Rattle.table.specs.declared.arrival.Arrival.{Arrival}
 use Rattle.table.proofs.Sound.{SoundTable, sound_table, table_sound, table_refuses, slice_refuses, slice_passes}
 use Rattle.table.proofs.Answers.{is_replaced, is_superseded, is_repeat, is_17, filing_held, filing_full, filing_new}
 use Rattle.table.proofs.SameHeader.{same_letters, same_side, same_version, same_reserved, same_room, written_alike}
@@ -41,11 +38,11 @@ use Rattle.table.proofs.SameHeader.{written_count, written_records}
 -- ---- records that pass 11 to 16
 module _ (stride side : ℕ) where
   abbrev pub Good : List ℕ → Type 0
-  Good r = check_record stride side r ≡ Sound
+  Good r = check_record stride side r ≡ Ok tt
 
-  passed : (c : Checked) → is_refused c ≡ false → c ≡ Sound
-  passed Sound e = refl
-  passed (Refused f) e = cc
+  passed : (c : Checked) → is_refused c ≡ false → c ≡ Ok tt
+  passed (Ok _) e = refl
+  passed (Err f) e = cc
 
   pub all_good : (rs : List (List ℕ)) → any (fails stride side) rs ≡ false → (r : List ℕ) → In r rs → Good r
   unfolding fails
@@ -59,7 +56,7 @@ module _ (stride side : ℕ) where
   good_sized rs g r m = (sound_record stride side r (g r m)).size
 
 -- each record of a sound table is sound
-pub sound_in : (sides : Sides) (t : List ℕ) → check_table sides t ≡ Sound → (r : List ℕ)
+pub sound_in : (sides : Sides) (t : List ℕ) → check_table sides t ≡ Ok tt → (r : List ℕ)
     → In r (records_of (record_size (stride_of t)) t) → SoundRecord (stride_of t) r (side_of t)
 sound_in sides t e r m =
     sound_record (stride_of t) (side_of t) r
@@ -123,8 +120,8 @@ module _ (room : ℕ) (r : List ℕ) (rs : List (List ℕ)) (t : List ℕ) where
       ⊎ (changed (filing_of room r rs) t (filed r rs) ≡ written t after_arrival)
 
   -- what an answer makes of the table
-  answered : (a : Arrival) → filing_of room r rs ≡ a → changed (filing_of room r rs) t (filed r rs) ≡ changed a t (filed r rs)
-  answered a e = ap (λ (x : Arrival). changed x t (filed r rs)) e
+  answered : (a : Arrived) → filing_of room r rs ≡ a → changed (filing_of room r rs) t (filed r rs) ≡ changed a t (filed r rs)
+  answered a e = ap (λ (x : Arrived). changed x t (filed r rs)) e
 
   -- and what the stored record makes of the records
   stored_makes : (o : Option (List ℕ)) → stored_of r rs ≡ o
@@ -132,10 +129,10 @@ module _ (room : ℕ) (r : List ℕ) (rs : List (List ℕ)) (t : List ℕ) where
   unfolding stored_of
   stored_makes o e = ap (against key_of key_less same_key correction_of lower_correction room r rs) e
 
-  left_alone : (a : Arrival) → filing_of room r rs ≡ a → changed a t (filed r rs) ≡ t → after_arrival ≡ rs → Changes
+  left_alone : (a : Arrived) → filing_of room r rs ≡ a → changed a t (filed r rs) ≡ t → after_arrival ≡ rs → Changes
   left_alone a e c k = inl (answered a e ∙ c, k)
 
-  put_there : (a : Arrival) → filing_of room r rs ≡ a → changed a t (filed r rs) ≡ written t (filed r rs)
+  put_there : (a : Arrived) → filing_of room r rs ≡ a → changed a t (filed r rs) ≡ written t (filed r rs)
       → after_arrival ≡ filed r rs → Changes
   put_there a e c k = inr (answered a e ∙ c ∙ ap (written t) (sym k))
 
@@ -165,17 +162,17 @@ module _ (t s : List ℕ) where
   abbrev stored_records : List (List ℕ)
   stored_records = records_of (record_size (stride_of t)) t
 
-  by_answer : (a : Arrival) → arrival_of t s ≡ a → arrived_at t s ≡ changed a t (filed (record_of s) stored_records)
-  by_answer a e = ap (λ (x : Arrival). changed x t (filed (record_of s) stored_records)) e
+  by_answer : (a : Arrived) → arrival_of t s ≡ a → arrived_at t s ≡ changed a t (filed (record_of s) stored_records)
+  by_answer a e = ap (λ (x : Arrived). changed x t (filed (record_of s) stored_records)) e
 
-  pub left_by_table : (f : Refusal) → check_table Both t ≡ Refused f → arrived_at t s ≡ t
+  pub left_by_table : (f : ℕ) → check_table Both t ≡ Err f → arrived_at t s ≡ t
   left_by_table f e = by_answer _ (table_refuses t s f e)
 
-  module _ (e : check_table Both t ≡ Sound) where
-    pub left_by_slice : (f : Refusal) → check_slice (stride_of t) (feature_of t) (side_of t) s ≡ Refused f → arrived_at t s ≡ t
+  module _ (e : check_table Both t ≡ Ok tt) where
+    pub left_by_slice : (f : ℕ) → check_slice (stride_of t) (feature_of t) (side_of t) s ≡ Err f → arrived_at t s ≡ t
     left_by_slice f d = by_answer _ (slice_refuses t s e f d)
 
-    pub filed_by : check_slice (stride_of t) (feature_of t) (side_of t) s ≡ Sound
+    pub filed_by : check_slice (stride_of t) (feature_of t) (side_of t) s ≡ Ok tt
         → arrived_at t s ≡ changed (filing_of room (record_of s) stored_records) t (filed (record_of s) stored_records)
     filed_by d = by_answer _ (slice_passes t s e d)
 
@@ -194,7 +191,7 @@ module _ (t s : List ℕ) where
 
   -- a sound table, written with them
   pub record Filed : Type 0 where
-    pub sound : check_table Both t ≡ Sound
+    pub sound : check_table Both t ≡ Ok tt
     pub writes : arrived_at t s ≡ written t made
     pub keeps : Kept key_of key_less same_key (Good (stride_of t) (side_of t)) (room t s) (stored_records t s) made
 
@@ -202,10 +199,10 @@ module _ (t s : List ℕ) where
   pub left_or_filed : (arrived_at t s ≡ t) ⊎ Filed
   left_or_filed = go (check_table Both t) refl
     where
-      by_slice : check_table Both t ≡ Sound → (c : Checked) → check_slice (stride_of t) (feature_of t) (side_of t) s ≡ c
+      by_slice : check_table Both t ≡ Ok tt → (c : Checked) → check_slice (stride_of t) (feature_of t) (side_of t) s ≡ c
           → (arrived_at t s ≡ t) ⊎ Filed
-      by_slice e (Refused f) d = inl (left_by_slice t s e f d)
-      by_slice e Sound d =
+      by_slice e (Err f) d = inl (left_by_slice t s e f d)
+      by_slice e (Ok _) d =
           ⊎_elim (λ p. inl (filed_by t s e d ∙ p.0)) (λ p. inr (record { sound = e; writes = filed_by t s e d ∙ p; keeps = k }))
           (filing_changes (room t s) (record_of s) (stored_records t s) t)
         where
@@ -219,11 +216,11 @@ module _ (t s : List ℕ) where
               (all_good (stride_of t) (side_of t) (stored_records t s) h.sound) (sound_slice _ _ _ s d).sound
 
       go : (c : Checked) → check_table Both t ≡ c → (arrived_at t s ≡ t) ⊎ Filed
-      go (Refused f) e = inl (left_by_table t s f e)
-      go Sound e = by_slice e (check_slice (stride_of t) (feature_of t) (side_of t) s) refl
+      go (Err f) e = inl (left_by_table t s f e)
+      go (Ok _) e = by_slice e (check_slice (stride_of t) (feature_of t) (side_of t) s) refl
 
 -- STILL SOUND: a table that passes 1 to 7, for the sides that a call takes, passes them after the arrival of any slice
-pub still_sound : (sides : Sides) (t s : List ℕ) → check_table sides t ≡ Sound → check_table sides (arrived_at t s) ≡ Sound
+pub still_sound : (sides : Sides) (t s : List ℕ) → check_table sides t ≡ Ok tt → check_table sides (arrived_at t s) ≡ Ok tt
 still_sound sides t s sound =
     ⊎_elim (λ e. ap (check_table sides) e ∙ sound)
     (λ f. let k = f.keeps in

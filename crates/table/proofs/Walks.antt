@@ -1,72 +1,69 @@
 -- The walks over the records of a table: what each finds from record i on. Assumes nothing.
-use Prim.Native.Nat.{ℕ, suc, ◌+◌, ◌≤◌, ◌<◌}
-use mathlib.Core.Path.{◌≡◌, refl, ◌∙◌, ap}
+use Prim.Native.Nat.{ℕ, suc, ◌+◌, ◌-◌, ◌≤◌, ◌<◌}
+use mathlib.Core.Path.{◌≡◌, refl, sym, ◌∙◌, ap}
 use mathlib.Core.List.{List, [], ◌∷◌}
-use mathlib.Core.Bool.{Bool, true, false, ◌||◌}
-use lib.ListN.{drop}
-use Rattle.laws.specs.Lists.{any}
-use Rattle.laws.specs.Keyed.{rises_from}
-use Rattle.slice.specs.Record.{key_of, key_less, same_key}
-use Rattle.slice.specs.Check.{check_record, stopped, review_from, review_of}
-use Rattle.slice.specs.declared.record.Key.{Key}
-use Rattle.slice.specs.declared.check.Refusal.{Refusal}
-use Rattle.slice.specs.declared.check.Checked.{Checked}
-use Rattle.slice.specs.declared.check.Checked.TheVariants.{Sound, Refused}
-use Rattle.slice.specs.declared.check.Review.{Review}
-use Rattle.slice.specs.declared.check.Review.TheVariants.{AllSound, Failing}
+use mathlib.Core.Bool.{Bool, true, false, ◌&&◌, ◌||◌}
+use native.Mathlib.Omega.{arith}
+use lib.ListN.{length, take, drop}
+use lib.Dec.{ltb}
+use borrow.Author.Tests.{ltb-true, ltb-false}
+use Rattle.laws.specs.Lists.{any, pieces}
+use Rattle.laws.proofs.Lists.{rest_whole}
+use Rattle.laws.proofs.Tests.{by-test}
+use Rattle.slice.specs.Record.{key_of, key_less}
+use Rattle.slice.specs.Check.{Checked, check_record, stopped, review_from, review_of, Review, reviewed}
+use Rattle.slice.specs.declared.check.Failing.{Failing}
+use Rattle.std.specs.Prelude.{Result, Ok, Err}
+use Rattle.std.specs.Result.{is_err}
 use Rattle.table.specs.Header.{count_of, room_of, records_of, record_at}
 use Rattle.table.specs.Rules.{is_refused, fails, in_order}
 use Rattle.table.proofs.Records.{rest_at, rest_end}
 
 -- a review stops at a record
 abbrev stops : Review → Bool
-stops AllSound = false
-stops (Failing i f) = true
+stops (Ok _) = false
+stops (Err f) = true
 
+-- ---- the records from one on rise where it comes before the next and those from there on rise
 module _ (size : ℕ) (t : List ℕ) where
-  abbrev left : ℕ → List (List ℕ)
-  left i = drop i (records_of size t)
+  abbrev pub rise_from : ℕ → Bool
+  rise_from i = in_order (drop i (records_of size t))
 
-  -- the records rise from record i on, where k is the key of the one before
-  abbrev pub rises_on : Key → ℕ → Bool
-  rises_on k i = rises_from key_of key_less same_key k (left i)
-
-  -- at the start and at the end
-  pub order_none : count_of t ≤ 0 → in_order (records_of size t) ≡ true
+  pub rise_next : (i : ℕ) → 0 < i → i < count_of t → count_of t ≤ room_of size t
+      → rise_from (i - 1) ≡ (key_less (key_of (record_at size (i - 1) t)) (key_of (record_at size i t)) && rise_from i)
   unfolding in_order
-  order_none h = rw (rest_end size t 0 h)
+  rise_next i some h roomy =
+      let next : i - 1 + 1 ≡ i = omega arith in
+      rw (rest_at size t (i - 1) (omega arith) roomy, next, rest_at size t i h roomy)
 
-  pub order_end : (k : Key) (i : ℕ) → count_of t ≤ i → rises_on k i ≡ true
-  order_end k i h = rw (rest_end size t i h)
-
-  -- at record i
-  module _ (roomy : count_of t ≤ room_of size t) where
-    pub order_start : 0 < count_of t → in_order (records_of size t) ≡ rises_on (key_of (record_at size 0 t)) 1
-    unfolding in_order
-    order_start h = rw (rest_at size t 0 h roomy)
-
-    pub order_off : (k : Key) (i : ℕ) → i < count_of t → key_less k (key_of (record_at size i t)) ≡ false → rises_on k i ≡ false
-    order_off k i h e = rw (rest_at size t i h roomy, e)
-
-    pub order_on : (k : Key) (i : ℕ) → i < count_of t → key_less k (key_of (record_at size i t)) ≡ true
-        → rises_on k i ≡ rises_on (key_of (record_at size i t)) (i + 1)
-    order_on k i h e = rw (rest_at size t i h roomy, e)
+  -- the last one rises
+  pub rise_last : (k : ℕ) → count_of t ≤ k + 1 → count_of t ≤ room_of size t → rise_from k ≡ true
+  unfolding in_order
+  rise_last k h roomy =
+      by-test (ltb k (count_of t))
+      (λ l. rw (rest_at size t k (ltb-true _ _ l) roomy, rest_end size t (k + 1) h))
+      (λ l. rw (rest_end size t k (ltb-false _ _ l)))
 
 -- ---- some record fails where the check of one after the other stops
 stop_told : (i : ℕ) (c : Checked) (b : Bool) (v : Review) → b ≡ stops v → (is_refused c || b) ≡ stops (stopped i c v)
-stop_told i Sound b v e = e
-stop_told i (Refused f) b v e = refl
+stop_told i (Ok _) b v e = e
+stop_told i (Err f) b v e = refl
 
 review_any : (stride side i : ℕ) (rs : List (List ℕ)) → any (fails stride side) rs ≡ stops (review_from stride side i rs)
 unfolding fails
 review_any stride side i [] = refl
 review_any stride side i (r ∷ rs) = stop_told i (check_record stride side r) _ _ (review_any stride side (suc i) rs)
 
-module _ (stride side : ℕ) (rs : List (List ℕ)) where
-  pub review_fails : (i : ℕ) (f : Refusal) → review_of stride side rs ≡ Failing i f → any (fails stride side) rs ≡ true
-  unfolding review_of
-  review_fails i f e = review_any stride side 0 rs ∙ ap stops e
+stops_told : (r : Result Unit Failing) → stops (reviewed r) ≡ is_err r
+stops_told (Ok u) = refl
+stops_told (Err f) = refl
 
-  pub review_passes : review_of stride side rs ≡ AllSound → any (fails stride side) rs ≡ false
-  unfolding review_of
-  review_passes e = review_any stride side 0 rs ∙ ap stops e
+-- the answer of the check of the records behind a header
+pub review_tells : (stride side size count : ℕ) (t : List ℕ) (r : Result Unit Failing) → count ≡ count_of t
+    → reviewed r ≡ review_of stride side (pieces size count (take (length t - 32) (drop 32 t)))
+    → is_err r ≡ any (fails stride side) (records_of size t)
+unfolding review_of records_of
+review_tells stride side size count t r n e =
+    sym (stops_told r) ∙ ap stops e
+    ∙ (λ i. stops (review_of stride side (pieces size (n i) (rest_whole 32 t i))))
+    ∙ sym (review_any stride side 0 (records_of size t))

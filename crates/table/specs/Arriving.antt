@@ -1,44 +1,50 @@
 -- The new table and the arrival of a slice (document 01, "Arrival"; 001, 2.6 and 3.7). Assumes nothing.
-use Rattle.std.specs.Prelude.{ℕ, List, [], ◌∷◌, ◌++◌, Bool, true, false, cond, not, ◌&&◌, length, drop, ltb, eqb}
+use Rattle.std.specs.Prelude.{ℕ, List, [], ◌∷◌, ◌++◌, Bool, true, false, cond, not, ◌&&◌, length, drop, ltb, eqb, Result, Ok, Err}
 use Rattle.std.proofs.Math.Option.{Option, none, some}
 use Rattle.laws.specs.Keyed.{stored, put}
 use Rattle.laws.specs.Refusals.{Test, test, refuse}
-use Rattle.laws.specs.Replies.{Reply, accepted_as}
+use Rattle.laws.specs.Replies.{Reply, refused_with, accepted_as}
 use Rattle.octets.specs.Bytes.{same_bytes}
 use Rattle.numbers.specs.Numbers.{lower_correction, same_correction}
 use Rattle.slice.specs.Record.{record_size, correction_of, key_of, key_less, same_key}
-use Rattle.slice.specs.Check.{refusal_reply, slice_tests}
+use Rattle.slice.specs.Check.{slice_tests}
 use Rattle.table.specs.Header.{side_of, feature_of, stride_of, header_of, room_of, records_of, written}
 use Rattle.table.specs.Rules.{takes, table_tests, ruling}
 use Rattle.table.specs.declared.check.Sides.TheVariants.{Both}
-use Rattle.table.specs.declared.create.Creation.{Creation}
-use Rattle.table.specs.declared.create.Creation.TheVariants as creation
 use Rattle.table.specs.declared.arrival.Arrival.{Arrival}
 use Rattle.table.specs.declared.arrival.Arrival.TheVariants as arrival
 
 -- ---- a new table: 1, 2, and then its header and no record
+-- what making a table returns: made, or the number of the refusal
+abbrev pub Creation : Type 0
+Creation = Result Unit ℕ
+
 abbrev pub creation_refused : ℕ → Creation
-creation_refused n = creation.Refused (record { number = n })
+creation_refused n = Err n
 
 unfoldable pub creation_tests : List ℕ → ℕ → List Test
 creation_tests t side = test 1 (ltb (length t) 32) ∷ test 2 (not (takes Both side)) ∷ []
 
 unfoldable pub creation_of : List ℕ → ℕ → Creation
-creation_of t side = refuse creation_refused (creation_tests t side) creation.Made
+creation_of t side = refuse creation_refused (creation_tests t side) (Ok tt)
 
 -- in numbers: made, 1
 unfoldable pub creation_reply : Creation → Reply
-creation_reply creation.Made = accepted_as 1 0
-creation_reply (creation.Refused f) = refusal_reply f
+creation_reply (Ok _) = accepted_as 1 0
+creation_reply (Err n) = refused_with n
 
 -- the buffer after it
 abbrev pub created : Creation → List ℕ → ℕ → List ℕ → List ℕ
-created creation.Made t side feature = header_of side feature 0 ++ drop 32 t
-created (creation.Refused f) t side feature = t
+created (Ok _) t side feature = header_of side feature 0 ++ drop 32 t
+created (Err n) t side feature = t
 
 -- ---- an arrival
-abbrev pub refused_arrival : ℕ → Arrival
-refused_arrival n = arrival.Refused (record { number = n })
+-- what an arrival returns: one of the four accepted answers, or the number of the refusal
+abbrev pub Arrived : Type 0
+Arrived = Result Arrival ℕ
+
+abbrev pub refused_arrival : ℕ → Arrived
+refused_arrival n = Err n
 
 -- the record of a slice in delivery, behind the feature's identifier
 abbrev pub record_of : List ℕ → List ℕ
@@ -59,11 +65,11 @@ is_new none = true
 is_new (some x) = false
 
 -- the four accepted answers: the kind and sequence number are new; the correction is higher than the stored one; lower; equal
-abbrev pub accepted_of : List ℕ → Option (List ℕ) → Arrival
-accepted_of r none = arrival.Added
+abbrev pub accepted_of : List ℕ → Option (List ℕ) → Arrived
+accepted_of r none = Ok arrival.Added
 accepted_of r (some x) =
-    cond (lower_correction (correction_of x) (correction_of r)) arrival.Replaced
-    (cond (lower_correction (correction_of r) (correction_of x)) arrival.Superseded arrival.Repeat)
+    cond (lower_correction (correction_of x) (correction_of r)) (Ok arrival.Replaced)
+    (cond (lower_correction (correction_of r) (correction_of x)) (Ok arrival.Superseded) (Ok arrival.Repeat))
 
 -- 17, 18, for a record that comes to stored ones in a room, and then its answer
 unfoldable pub filing_tests : ℕ → List ℕ → List (List ℕ) → List Test
@@ -72,37 +78,37 @@ filing_tests room r rs =
     ∷ test 18 (is_new (stored_of r rs) && eqb (length rs) room)
     ∷ []
 
-unfoldable pub filing_of : ℕ → List ℕ → List (List ℕ) → Arrival
+unfoldable pub filing_of : ℕ → List ℕ → List (List ℕ) → Arrived
 filing_of room r rs = refuse refused_arrival (filing_tests room r rs) (accepted_of r (stored_of r rs))
 
 -- 1 to 7 of the table, 9 to 16 of the slice, and then 17, 18
-unfoldable pub arrival_of : List ℕ → List ℕ → Arrival
+unfoldable pub arrival_of : List ℕ → List ℕ → Arrived
 arrival_of t s =
     refuse refused_arrival (table_tests (stride_of t) Both t ++ slice_tests (stride_of t) (feature_of t) (side_of t) s)
     (filing_of (room_of (record_size (stride_of t)) t) (record_of s) (records_of (record_size (stride_of t)) t))
 
 -- in numbers: added, 1; replaced, 2; superseded, 3; a repeat, 4
-unfoldable pub arrival_reply : Arrival → Reply
-arrival_reply arrival.Added = accepted_as 1 0
-arrival_reply arrival.Replaced = accepted_as 2 0
-arrival_reply arrival.Superseded = accepted_as 3 0
-arrival_reply arrival.Repeat = accepted_as 4 0
-arrival_reply (arrival.Refused f) = refusal_reply f
+unfoldable pub arrival_reply : Arrived → Reply
+arrival_reply (Ok arrival.Added) = accepted_as 1 0
+arrival_reply (Ok arrival.Replaced) = accepted_as 2 0
+arrival_reply (Ok arrival.Superseded) = accepted_as 3 0
+arrival_reply (Ok arrival.Repeat) = accepted_as 4 0
+arrival_reply (Err n) = refused_with n
 
 -- the table after an answer, where us are its records with the new one in its place
-abbrev pub changed : Arrival → List ℕ → List (List ℕ) → List ℕ
-changed arrival.Added t us = written t us
-changed arrival.Replaced t us = written t us
-changed arrival.Superseded t us = t
-changed arrival.Repeat t us = t
-changed (arrival.Refused f) t us = t
+abbrev pub changed : Arrived → List ℕ → List (List ℕ) → List ℕ
+changed (Ok arrival.Added) t us = written t us
+changed (Ok arrival.Replaced) t us = written t us
+changed (Ok arrival.Superseded) t us = t
+changed (Ok arrival.Repeat) t us = t
+changed (Err n) t us = t
 
 -- the records with a new one in its place, or in the room of the one of its key
 unfoldable pub filed : List ℕ → List (List ℕ) → List (List ℕ)
 filed r rs = put key_of key_less same_key r rs
 
 -- the table after an answer to a record
-abbrev pub after : Arrival → ℕ → List ℕ → List ℕ → List ℕ
+abbrev pub after : Arrived → ℕ → List ℕ → List ℕ → List ℕ
 after a size t r = changed a t (filed r (records_of size t))
 
 -- the table after the arrival of a slice

@@ -1,5 +1,5 @@
 -- Deliveries: which answer each gets, and the table of their set worked out afresh (demand 3). Assumes nothing.
-use Rattle.std.specs.Prelude.{ℕ, ◌+◌, ◌≡◌, List, [], ◌∷◌, ◌++◌, map, Bool, true, not, ◌↔◌, length, drop}
+use Rattle.std.specs.Prelude.{ℕ, ◌+◌, ◌≡◌, List, [], ◌∷◌, ◌++◌, map, Bool, true, not, ◌↔◌, length, drop, Ok}
 use Rattle.laws.specs.Lists.{kept, joined}
 use Rattle.laws.specs.Keyed.{In, Consistent, Fresh, distinct, afresh}
 use Rattle.numbers.specs.Numbers.{lower_correction}
@@ -7,23 +7,22 @@ use Rattle.slice.specs.Record.{correction_of, key_of, key_less, same_key}
 use Rattle.slice.specs.Check.{check_slice}
 use Rattle.table.specs.Header.{stride1, header_of}
 use Rattle.table.specs.Rules.{is_refused}
-use Rattle.table.specs.Arriving.{refused_arrival, record_of, arrived_at}
-use Rattle.table.specs.declared.arrival.Arrival.{Arrival}
+use Rattle.table.specs.Arriving.{refused_arrival, record_of, arrived_at, Arrived}
 use Rattle.table.specs.declared.arrival.Arrival.TheVariants.{Added, Replaced, Superseded, Repeat}
 
 -- ---- one delivery
 -- the answer a to a record r that comes to the records rs in a room
-pub record Decided (room : ℕ) (r : List ℕ) (rs : List (List ℕ)) (a : Arrival) : Type 0 where
+pub record Decided (room : ℕ) (r : List ℕ) (rs : List (List ℕ)) (a : Arrived) : Type 0 where
   -- no stored record has its kind and sequence
-  pub added : ((x : List ℕ) → In x rs → key_of x ≡ key_of r → ⊥) → (length rs ≡ room → ⊥) → a ≡ Added
+  pub added : ((x : List ℕ) → In x rs → key_of x ≡ key_of r → ⊥) → (length rs ≡ room → ⊥) → a ≡ Ok Added
   pub full : ((x : List ℕ) → In x rs → key_of x ≡ key_of r → ⊥) → length rs ≡ room → a ≡ refused_arrival 18
   -- x is the stored record of its kind and sequence: its correction is lower; it is higher; it is the same, with
   -- equal or other bytes
   pub replaced : (x : List ℕ) → In x rs → key_of x ≡ key_of r → lower_correction (correction_of x) (correction_of r) ≡ true
-      → a ≡ Replaced
+      → a ≡ Ok Replaced
   pub superseded : (x : List ℕ) → In x rs → key_of x ≡ key_of r → lower_correction (correction_of r) (correction_of x) ≡ true
-      → a ≡ Superseded
-  pub repeated : (x : List ℕ) → In x rs → key_of x ≡ key_of r → correction_of r ≡ correction_of x → r ≡ x → a ≡ Repeat
+      → a ≡ Ok Superseded
+  pub repeated : (x : List ℕ) → In x rs → key_of x ≡ key_of r → correction_of r ≡ correction_of x → r ≡ x → a ≡ Ok Repeat
   pub clash : (x : List ℕ) → In x rs → key_of x ≡ key_of r → correction_of r ≡ correction_of x → (r ≡ x → ⊥) → a ≡ refused_arrival 17
 
 -- ---- many

@@ -1,10 +1,9 @@
 -- Edges of the arrival, computed: one table, one claim. Assumes nothing.
-use Rattle.std.specs.Prelude.{ℕ, suc, ◌≡◌, refl, List, [], ◌∷◌, ◌++◌, map, take, drop, replicate}
+use Rattle.std.specs.Prelude.{ℕ, suc, ◌≡◌, refl, List, [], ◌∷◌, ◌++◌, map, take, drop, replicate, Ok}
 use Rattle.laws.specs.Replies.{Reply, accepted_as}
 use Rattle.slice.specs.Record.{tempdelta, temporary}
 use Rattle.table.specs.Header.{header_of}
 use Rattle.table.specs.Arriving.{created, refused_arrival, record_of, arrival_of, arrival_reply, arrived_at, arriving}
-use Rattle.table.specs.declared.create.Creation.TheVariants.{Made}
 
 abbrev feature : List ℕ
 feature = replicate 16 7
@@ -20,7 +19,7 @@ cancel q c = feature ++ (tempdelta ∷ 1 ∷ 0 ∷ c ∷ 0 ∷ 0 ∷ 0 ∷ q ∷
 
 -- a new table in a buffer; a table of some records, counted as n, in a buffer with no other byte
 abbrev fresh : ℕ → List ℕ
-fresh n = created Made (replicate n 0) temporary feature
+fresh n = created (Ok tt) (replicate n 0) temporary feature
 
 abbrev table : ℕ → List ℕ → List ℕ
 table n rs = header_of temporary feature n ++ rs

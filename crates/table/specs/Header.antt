@@ -1,6 +1,7 @@
 -- A table: its header, its room and its records (document 01, "Table and record layout"). Over the size of a record, which
 -- the stride of a property gives. Assumes nothing.
-use Rattle.std.specs.Prelude.{ℕ, ◌+◌, ◌-◌, ◌*◌, ◌/◌, min, List, [], ◌∷◌, ◌++◌, Bool, cond, ◌&&◌, length, take, drop, replicate, eqb, ltb}
+use Rattle.std.specs.Prelude.{ℕ, ◌+◌, ◌-◌, ◌*◌, ◌/◌, min, List, [], ◌∷◌, ◌++◌, Bool, cond, ◌&&◌, length, take, drop, replicate}
+use Rattle.std.specs.Prelude.{eqb, ltb}
 use Rattle.laws.specs.Lists.{pieces, joined}
 use Rattle.octets.specs.Bytes.{byte_of, be_of}
 use Rattle.octets.specs.Writing.{bytes_of}

@@ -1,14 +1,12 @@
 -- The check of a table, 1 to 7 (document 01, "Refusal numbers"). Assumes nothing.
-use Rattle.std.specs.Prelude.{ℕ, List, [], ◌∷◌, Bool, true, false, not, ◌&&◌, ◌||◌, length, eqb, ltb}
+use Rattle.std.specs.Prelude.{ℕ, List, [], ◌∷◌, Bool, true, false, not, ◌&&◌, ◌||◌, length, eqb, ltb, Ok, Err}
 use Rattle.laws.specs.Lists.{any}
 use Rattle.laws.specs.Keyed.{rises}
 use Rattle.laws.specs.Orders.{lex_less}
 use Rattle.laws.specs.Refusals.{Test, test, refuse}
 use Rattle.octets.specs.Bytes.{filled}
 use Rattle.slice.specs.Record.{permanent, temporary, record_size, key_of, key_less, same_key}
-use Rattle.slice.specs.Check.{refused, check_record, checking}
-use Rattle.slice.specs.declared.check.Checked.{Checked}
-use Rattle.slice.specs.declared.check.Checked.TheVariants.{Sound, Refused}
+use Rattle.slice.specs.Check.{Checked, sound, refused, check_record, checking}
 use Rattle.table.specs.Header.{lettered, side_of, version_of, count_of, stride_of, room_of, records_of, header}
 use Rattle.table.specs.declared.check.Sides.{Sides}
 use Rattle.table.specs.declared.check.Sides.TheVariants.{Permanent, Temporary, Both}
@@ -21,8 +19,8 @@ takes Both side = eqb side permanent || eqb side temporary
 
 -- a record fails 11 to 16 on the table's side
 abbrev pub is_refused : Checked → Bool
-is_refused Sound = false
-is_refused (Refused f) = true
+is_refused (Ok _) = false
+is_refused (Err n) = true
 
 unfoldable pub fails : ℕ → ℕ → List ℕ → Bool
 fails stride side r = is_refused (check_record stride side r)
@@ -44,7 +42,7 @@ table_tests stride sides t =
     ∷ []
 
 unfoldable pub check_table : Sides → List ℕ → Checked
-check_table sides t = refuse refused (table_tests (stride_of t) sides t) Sound
+check_table sides t = refuse refused (table_tests (stride_of t) sides t) sound
 
 -- `unfolding ruling` opens every definition that the check computes by
 unfoldable pub ruling : Unit {0}

@@ -9,7 +9,7 @@ use octets::{be16, byte};
 pub fn is_lettered(table: &[u8]) -> bool
     ensures { result ≡ lettered table.now }
 {
-    (byte(table, 0) == b'T') & ((byte(table, 1) == b'S') & (byte(table, 2) == b'L'))
+    table.starts_with(b"TSL")
 }
 
 // The side of a table, 0 for one that is too short to have one.
@@ -42,30 +42,27 @@ pub fn record_size(table: &[u8]) -> usize
 
 // How many records of a size a table has room for: the lesser of 256 and those that fit. Records of no
 // bytes have no room.
+#[tactic(auto, unfolding(crate::specs::Header::header))]
 pub fn room_of(table: &[u8], size: usize) -> usize
     ensures { result ≡ room_of size table.now }
 {
-    if table.len() < 32 {
-        return 0;
-    }
     if size == 0 {
         return 0;
     }
-    let whole = (table.len() - 32) / size;
-    if whole < 256 { whole } else { 256 }
+    (table.len().saturating_sub(32) / size).min(256)
 }
 
 // Record i of a table whose records have a size, as a part of it; an empty part at its front where the
 // table has no room for such a record.
+#[tactic(auto, using(crate::proofs::Records::record_fits), unfolding(crate::specs::Header::header))]
 pub fn record_at(table: &[u8], size: usize, i: usize) -> &[u8]
     ensures bytes { result.now ≡ record_at size i table.now }
     ensures place { result.ref_ptr ≡ (table.entry.ref_ptr.0, place_of size i table.now + table.entry.ref_ptr.1) }
 {
     if i < room_of(table, size) {
         let at = 32 + i * size;
-        let end = at + size;
-        &table[at..end]
+        &table[at..at + size]
     } else {
-        &table[0..0]
+        &table[..0]
     }
 }

@@ -6,8 +6,9 @@ mod arrival;
 mod check;
 mod create;
 mod header;
+mod stored;
 
 pub use arrival::{Arrival, arrive};
 pub use check::{Sides, check_table};
-pub use create::{Creation, new_table};
+pub use create::new_table;
 pub use header::{count_of, record_at, record_size, room_of, side_of, stride_of};

@@ -14,12 +14,11 @@ use Rattle.property.specs.Eight.{properties_of}
 use Rattle.slice.specs.Record.{sequence_of, period_of, parts_of}
 use Rattle.table.specs.Header.{stride_of}
 use Rattle.baselines.specs.Deriving.{derived_records, derivation_of}
-use Rattle.baselines.specs.declared.derivation.Derivation.{Derivation}
-use Rattle.baselines.specs.declared.derivation.Derivation.TheVariants.{Derived, Refused}
+use Rattle.baselines.specs.Deriving.{Derivation}
+use Rattle.std.specs.Prelude.{Ok, Err}
 use Rattle.baselines.proofs.DerivedTable.{derived_told}
 use Rattle.text.specs.Listing.{digits_of, decimal_of, end_of, form_of, line_of, text_of, listing_of, put_of}
-use Rattle.text.specs.declared.listing.Listing.{Listing}
-use Rattle.text.specs.declared.listing.Listing.TheVariants.{Text, Needs}
+use Rattle.text.specs.Listing.{Listing}
 
 digits_most : (k n : ℕ) → length (digits_of k n) ≤ k
 digits_most zero n = omega arith
@@ -68,7 +67,7 @@ unfolding listing_of
 listing_most p = go (derivation_of p (replicate 57376 0)) refl
   where
     go : (d : Derivation) → derivation_of p (replicate 57376 0) ≡ d → length (text_of d (stride_of p) (derived_records p)) ≤ 10771
-    go (Derived n) e =
+    go (Ok n) e =
         let lines = joined (map (line_of (stride_of p)) (derived_records p)) in
         omega (
           arith,
@@ -78,12 +77,12 @@ listing_most p = go (derivation_of p (replicate 57376 0)) refl
               (derived_records p),
           (derived_told p (replicate 57376 0) n e).few,
         )
-    go (Refused f) e = omega (arith, length-append (decimal_of f.number) (10 ∷ []), decimal_most f.number)
+    go (Err f) e = omega (arith, length-append (decimal_of f) (10 ∷ []), decimal_most f)
 
 -- what putting a text answers is its length
 abbrev pub length_in : Listing → ℕ
-length_in (Text n) = n
-length_in (Needs n) = n
+length_in (Ok n) = n
+length_in (Err n) = n.0
 
 pub put_length : (text buffer : List ℕ) → length_in (put_of text buffer) ≡ length text
 unfolding put_of

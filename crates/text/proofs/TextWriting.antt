@@ -17,9 +17,9 @@ use Rattle.octets.proofs.Writing.{pasted_whole}
 use Rattle.property.specs.Eight.{properties_of}
 use Rattle.slice.specs.Record.{sequence_of, period_of, parts_of}
 use Rattle.state.proofs.Pasting.{pasted_on, pasted_none}
-use Rattle.text.specs.Listing.{digits_of, decimal_of, end_of, form_of, line_of, put_of}
+use Rattle.text.specs.Listing.{Listing, digits_of, decimal_of, end_of, form_of, line_of, put_of}
 use Rattle.text.specs.Wrote.{Wrote}
-use Rattle.text.specs.declared.listing.Listing.TheVariants.{Text, Needs}
+use Rattle.std.specs.Prelude.{Ok, Err}
 
 -- nothing is written
 pub wrote_none : (d : List ℕ) (at : ℕ) → at ≤ length d → Wrote 0 d at [] d at
@@ -116,11 +116,11 @@ lines_more f rs i h =
     ∙ ap (λ (l : List ℕ). joined (map f (take i rs)) ++ l) (append-nil (f (get_or rs i [])))
 
 -- ---- what was put into a buffer lies within it
-within : (b : Bool) (n k m : ℕ) → (b ≡ false → n ≤ m) → cond b (Needs n) (Text n) ≡ Text k → k ≤ m
+within : (b : Bool) (n k m : ℕ) → (b ≡ false → n ≤ m) → cond {A = Listing} b (Err (record { 0 = n })) (Ok n) ≡ Ok k → k ≤ m
 within true n k m h e = absurd (true≢false cc)
 within false n k m h e = let q : n ≡ k = cc in omega (arith, h refl)
 
-pub put_within : (text buffer : List ℕ) (n : ℕ) → put_of text buffer ≡ Text n → n ≤ length buffer
+pub put_within : (text buffer : List ℕ) (n : ℕ) → put_of text buffer ≡ Ok n → n ≤ length buffer
 unfolding put_of
 put_within text buffer n =
     within (ltb (length buffer) (length text)) (length text) n (length buffer) (ltb-false (length buffer) (length text))

@@ -5,4 +5,4 @@
 mod lines;
 mod listing;
 
-pub use listing::{Listing, list, say};
+pub use listing::{Needs, list, say};

@@ -1,13 +1,13 @@
 // The text of a listing. Each function writes at a place of the bytes that it is lent, and answers the
 // place behind what it wrote.
-ghost use Rattle.std.specs.Prelude.{◌+◌, ◌*◌, ◌≤◌, ◌<◌, ◌∷◌, [], ◌++◌, map, length};
+ghost use Rattle.std.specs.Prelude.{◌+◌, ◌*◌, ◌≤◌, ◌<◌, ◌∷◌, [], ◌++◌, map, length, Ok, Err};
 ghost use Rattle.laws.specs.Lists.{joined};
 ghost use Rattle.slice.specs.Record.{record_size, parts_of};
 ghost use Rattle.table.specs.Header.{count_of, stride_of, records_of};
 ghost use Rattle.table.specs.Steps.{Whole};
 ghost use Rattle.text.specs.Listing.{digits_of, decimal_of, end_of, form_of, line_of, text_of};
 ghost use Rattle.text.specs.Wrote.{Wrote};
-ghost use Rattle.baselines.specs.declared.derivation.Derivation.TheVariants.{Derived, Refused};
+ghost use Rattle.slice.specs.Refusing.{number};
 
 use numbers::Instant;
 use octets::{byte, put};
@@ -32,10 +32,10 @@ fn put_digits(s: &mut [u8], at: usize, k: usize, n: u32) -> usize
         return at;
     }
     if n < 10 {
-        return put_letters(s, at, &[48 + n as u8]);
+        return put_letters(s, at, &[b'0' + n as u8]);
     }
     let end = put_digits(s, at, k - 1, n / 10);
-    put_letters(s, end, &[48 + (n % 10) as u8])
+    put_letters(s, end, &[b'0' + (n % 10) as u8])
 }
 
 // Writes a number and a space.
@@ -66,10 +66,8 @@ fn put_period(s: &mut [u8], at: usize, period: Period) -> usize
         ((decimal_of period.begin.0 ++ (32 ∷ [])) ++ (end_of period.end ++ (32 ∷ [])))
         s.new result }
 {
-    let begin = period.begin;
-    let until = period.end;
-    let first = put_number(s, at, begin.0);
-    let second = put_end(s, first, until);
+    let first = put_number(s, at, period.begin.0);
+    let second = put_end(s, first, period.end);
     put_letters(s, second, b" ")
 }
 
@@ -79,10 +77,8 @@ fn put_forms(s: &mut [u8], at: usize, record: &[u8], stride: usize) -> usize
     ensures { Wrote 8 s.old at (map form_of (parts_of stride «record».now)) s.new result }
 {
     let mut end = at;
-    let mut i = 0;
-    while i < 8 {
-        end = put_letters(s, end, &[48 + byte(record, 32 + i * stride) % 10]);
-        i += 1;
+    for i in 0..8 {
+        end = put_letters(s, end, &[b'0' + byte(record, 32 + i * stride) % 10]);
     }
     end
 }
@@ -92,9 +88,7 @@ fn put_line(s: &mut [u8], at: usize, record: &[u8], stride: usize) -> usize
     requires { (at + 42 ≤ length s.old) × ((0 < stride) × (stride ≤ 4096)) }
     ensures { Wrote 42 s.old at (line_of stride «record».now) s.new result }
 {
-    let key = key_of(record);
-    let sequence = key.sequence;
-    let first = put_number(s, at, sequence.0);
+    let first = put_number(s, at, key_of(record).sequence.0);
     let second = put_period(s, first, period_of(record));
     let third = put_forms(s, second, record, stride);
     put_letters(s, third, b"\n")
@@ -110,12 +104,9 @@ fn put_lines(s: &mut [u8], at: usize, table: &[u8]) -> usize
 {
     let stride = stride_of(table);
     let size = record_size(table);
-    let count = count_of(table) as usize;
     let mut end = at;
-    let mut i = 0;
-    while i < count {
+    for i in 0..count_of(table) as usize {
         end = put_line(s, end, record_at(table, size, i), stride);
-        i += 1;
     }
     end
 }
@@ -124,7 +115,7 @@ fn put_lines(s: &mut [u8], at: usize, table: &[u8]) -> usize
 pub(crate) fn put_derived(s: &mut [u8], table: &[u8]) -> usize
     requires { Whole table.now × (10771 ≤ length s.old) }
     ensures { Wrote 10771 s.old 0
-        (text_of (Derived (count_of table.now)) (stride_of table.now)
+        (text_of (Ok (count_of table.now)) (stride_of table.now)
         (records_of (record_size (stride_of table.now)) table.now))
         s.new result }
 {
@@ -137,9 +128,9 @@ pub(crate) fn put_derived(s: &mut [u8], table: &[u8]) -> usize
 // Writes the text of a refusal: its number.
 pub(crate) fn put_refused(s: &mut [u8], refusal: Refusal) -> usize
     requires { 19 ≤ length s.old }
-    ensures { Wrote 19 s.old 0 (text_of (Refused refusal) 0 []) s.new result }
+    ensures { Wrote 19 s.old 0 (text_of (Err (number refusal)) 0 []) s.new result }
 {
     let first = put_letters(s, 0, b"refused ");
-    let second = put_digits(s, first, 10, refusal.number as u32);
+    let second = put_digits(s, first, 10, refusal.number() as u32);
     put_letters(s, second, b"\n")
 }

@@ -4,15 +4,12 @@ ghost use Rattle.text.specs.Listing.{listing_of, said_of, put_of, listing_reply,
 ghost use Rattle.text.specs.Wrote.{Wrote};
 
 use crate::lines::{put_derived, put_refused};
-use baselines::{Derivation, derive};
+use baselines::derive;
 use octets::put;
 
-// What writing a text answers: its length; or the length that it needs, where the buffer is shorter.
-#[derive(Clone, Copy)]
-pub enum Listing {
-    Text(usize),
-    Needs(usize),
-}
+// The length that a text needs, where the buffer is shorter.
+#[derive(Clone, Copy, Debug, PartialEq, Eq)]
+pub struct Needs(pub usize);
 
 // Writes the listing of a permanent table's derived baselines, and answers its length.
 fn put_listing(s: &mut [u8], permanent: &[u8]) -> usize
@@ -21,26 +18,26 @@ fn put_listing(s: &mut [u8], permanent: &[u8]) -> usize
 {
     let mut derived = [0u8; 57376];
     match derive(permanent, &mut derived) {
-        Derivation::Derived(_) => put_derived(s, &derived),
-        Derivation::Refused(refusal) => put_refused(s, refusal),
+        Ok(_) => put_derived(s, &derived),
+        Err(refusal) => put_refused(s, refusal),
     }
 }
 
 // Puts what is said into a buffer, and answers its length; or changes nothing, where the buffer is shorter.
-fn put_said(said: &[u8], text: &mut [u8]) -> Listing
+fn put_said(said: &[u8], text: &mut [u8]) -> Result<usize, Needs>
     ensures answer { result ≡ put_of said.now text.old }
     ensures buffer { text.new ≡ after_put result said.now text.old }
 {
     if text.len() < said.len() {
-        return Listing::Needs(said.len());
+        return Err(Needs(said.len()));
     }
     put(text, 0, said);
-    Listing::Text(said.len())
+    Ok(said.len())
 }
 
 // The listing of a permanent table's derived baselines: how many they are, and a line for each; or the
 // number of the refusal. Answers its length; or, with every byte as it was, the length that it needs.
-pub fn list(permanent: &[u8], text: &mut [u8]) -> Listing
+pub fn list(permanent: &[u8], text: &mut [u8]) -> Result<usize, Needs>
     ensures answer { listing_reply result ≡ listing_reply (put_of (listing_of permanent.now) text.old) }
     ensures buffer { text.new ≡ after_put result (listing_of permanent.now) text.old }
 {
@@ -50,7 +47,7 @@ pub fn list(permanent: &[u8], text: &mut [u8]) -> Listing
 }
 
 // What the listing program says of its input: the listing, or `too long` where it has over 57,376 bytes.
-pub fn say(input: &[u8], text: &mut [u8]) -> Listing
+pub fn say(input: &[u8], text: &mut [u8]) -> Result<usize, Needs>
     ensures answer { listing_reply result ≡ listing_reply (put_of (said_of input.now) text.old) }
     ensures buffer { text.new ≡ after_put result (said_of input.now) text.old }
 {

@@ -6,28 +6,24 @@ use Rattle.laws.specs.Replies.{Reply, refused_with, accepted_as}
 use Rattle.timeslices.specs.Answers.{numbers_of, part_of}
 use Rattle.timeslices.specs.declared.Answer.{Answer}
 use Rattle.timeslices.specs.declared.Part.{Part}
-use Rattle.table.specs.Arriving.{creation_reply, arrival_reply}
-use Rattle.table.specs.declared.create.Creation.{Creation}
-use Rattle.table.specs.declared.create.Creation.TheVariants as creation
+use Rattle.std.specs.Prelude.{Result, Ok, Err}
+use Rattle.slice.specs.Refusing.{told}
+use Rattle.slice.specs.Check.{checked_reply}
+use Rattle.slice.specs.declared.refusal.Refusal.{Refusal}
+use Rattle.table.specs.Arriving.{Creation, creation_reply, Arrived, arrival_reply}
 use Rattle.table.specs.declared.arrival.Arrival.{Arrival}
 use Rattle.table.specs.declared.arrival.Arrival.TheVariants as arrival
 use Rattle.table.proofs.Replies.{creation_told, arrival_told}
-use Rattle.state.specs.Asking.{outcome_reply, place_reply}
-use Rattle.state.specs.declared.answer.Outcome.{Outcome}
-use Rattle.state.specs.declared.answer.Outcome.TheVariants as outcome
+use Rattle.state.specs.Asking.{Outcome, outcome_reply, Located, place_reply}
 use Rattle.state.specs.declared.question.Place.{Place}
 use Rattle.state.specs.declared.question.Place.TheVariants as place
-use Rattle.state.specs.Touched.{touched_reply}
+use Rattle.state.specs.Touched.{Looked, touched_reply}
 use Rattle.state.specs.declared.looking.Touched.{Touched}
 use Rattle.state.specs.declared.looking.Touched.TheVariants as touched
 use Rattle.state.proofs.Replies.{outcome_told, place_told, touched_told}
-use Rattle.baselines.specs.Deriving.{derivation_reply}
-use Rattle.baselines.specs.declared.derivation.Derivation.{Derivation}
-use Rattle.baselines.specs.declared.derivation.Derivation.TheVariants as derivation
+use Rattle.baselines.specs.Deriving.{Derivation, derivation_reply}
 use Rattle.baselines.proofs.Replies.{derivation_told}
-use Rattle.text.specs.Listing.{listing_reply}
-use Rattle.text.specs.declared.listing.Listing.{Listing}
-use Rattle.text.specs.declared.listing.Listing.TheVariants as listing
+use Rattle.text.specs.Listing.{Listing, listing_reply}
 use Rattle.text.proofs.Replies.{listing_told}
 
 -- accepted answers are counted from 1
@@ -68,75 +64,88 @@ part_told p t a b h k e = sym (part_back p t a h) ∙ ap of_part e ∙ part_back
 -- ---- a new table
 creation_counted : (a : Creation) → Counted (creation_reply a)
 unfolding creation_reply
-creation_counted creation.Made = tt
-creation_counted (creation.Refused f) = tt
+creation_counted (Ok _) = tt
+creation_counted (Err n) = tt
+
+-- making a table answers as a check does
+pub creation_checked : (a : Creation) → checked_reply a ≡ creation_reply a
+unfolding checked_reply creation_reply
+creation_checked (Ok _) = refl
+creation_checked (Err n) = refl
 
 -- new tables whose numbers in C are equal are the same answer
-pub creation_crosses : (a b : Creation) → numbers_of (creation_reply a) ≡ numbers_of (creation_reply b) → a ≡ b
-creation_crosses a b e = creation_told a b (numbers_told _ _ (creation_counted a) (creation_counted b) e)
+pub creation_crosses : (a b : Result Unit Refusal) → numbers_of (creation_reply (told a)) ≡ numbers_of (creation_reply (told b)) → a ≡ b
+creation_crosses a b e = creation_told a b (numbers_told _ _ (creation_counted (told a)) (creation_counted (told b)) e)
 
 -- ---- an arrival
-arrival_counted : (a : Arrival) → Counted (arrival_reply a)
+arrival_counted : (a : Arrived) → Counted (arrival_reply a)
 unfolding arrival_reply
-arrival_counted arrival.Added = tt
-arrival_counted arrival.Replaced = tt
-arrival_counted arrival.Superseded = tt
-arrival_counted arrival.Repeat = tt
-arrival_counted (arrival.Refused f) = tt
+arrival_counted (Ok arrival.Added) = tt
+arrival_counted (Ok arrival.Replaced) = tt
+arrival_counted (Ok arrival.Superseded) = tt
+arrival_counted (Ok arrival.Repeat) = tt
+arrival_counted (Err n) = tt
 
 -- and arrivals
-pub arrival_crosses : (a b : Arrival) → numbers_of (arrival_reply a) ≡ numbers_of (arrival_reply b) → a ≡ b
-arrival_crosses a b e = arrival_told a b (numbers_told _ _ (arrival_counted a) (arrival_counted b) e)
+pub arrival_crosses : (a b : Result Arrival Refusal) → numbers_of (arrival_reply (told a)) ≡ numbers_of (arrival_reply (told b)) → a ≡ b
+arrival_crosses a b e = arrival_told a b (numbers_told _ _ (arrival_counted (told a)) (arrival_counted (told b)) e)
 
 -- ---- a state or a snapshot
 outcome_counted : (a : Outcome) → Counted (outcome_reply a)
 unfolding outcome_reply
-outcome_counted outcome.Written = tt
-outcome_counted (outcome.Refused f) = tt
+outcome_counted (Ok _) = tt
+outcome_counted (Err n) = tt
+
+-- writing a state answers as a check does
+pub outcome_checked : (a : Outcome) → checked_reply a ≡ outcome_reply a
+unfolding checked_reply outcome_reply
+outcome_checked (Ok _) = refl
+outcome_checked (Err n) = refl
 
 -- and outcomes
-pub outcome_crosses : (a b : Outcome) → numbers_of (outcome_reply a) ≡ numbers_of (outcome_reply b) → a ≡ b
-outcome_crosses a b e = outcome_told a b (numbers_told _ _ (outcome_counted a) (outcome_counted b) e)
+pub outcome_crosses : (a b : Result Unit Refusal) → numbers_of (outcome_reply (told a)) ≡ numbers_of (outcome_reply (told b)) → a ≡ b
+outcome_crosses a b e = outcome_told a b (numbers_told _ _ (outcome_counted (told a)) (outcome_counted (told b)) e)
 
 -- ---- whether anything temporary touches a property
-touched_counted : (a : Touched) → Counted (touched_reply a)
+touched_counted : (a : Looked) → Counted (touched_reply a)
 unfolding touched_reply
-touched_counted (touched.Yes n) = tt
-touched_counted (touched.No n) = tt
-touched_counted (touched.Refused f) = tt
+touched_counted (Ok (touched.Yes n)) = tt
+touched_counted (Ok (touched.No n)) = tt
+touched_counted (Err n) = tt
 
 -- and answers of yes and no, with their counts
-pub touched_crosses : (a b : Touched) → numbers_of (touched_reply a) ≡ numbers_of (touched_reply b) → a ≡ b
-touched_crosses a b e = touched_told a b (numbers_told _ _ (touched_counted a) (touched_counted b) e)
+pub touched_crosses : (a b : Result Touched Refusal) → numbers_of (touched_reply (told a)) ≡ numbers_of (touched_reply (told b)) → a ≡ b
+touched_crosses a b e = touched_told a b (numbers_told _ _ (touched_counted (told a)) (touched_counted (told b)) e)
 
 -- ---- a derivation
 derivation_counted : (a : Derivation) → Counted (derivation_reply a)
 unfolding derivation_reply
-derivation_counted (derivation.Derived n) = tt
-derivation_counted (derivation.Refused f) = tt
+derivation_counted (Ok n) = tt
+derivation_counted (Err n) = tt
 
 -- and derivations
-pub derivation_crosses : (a b : Derivation) → numbers_of (derivation_reply a) ≡ numbers_of (derivation_reply b) → a ≡ b
-derivation_crosses a b e = derivation_told a b (numbers_told _ _ (derivation_counted a) (derivation_counted b) e)
+pub derivation_crosses : (a b : Result ℕ Refusal) → numbers_of (derivation_reply (told a)) ≡ numbers_of (derivation_reply (told b)) → a ≡ b
+derivation_crosses a b e = derivation_told a b (numbers_told _ _ (derivation_counted (told a)) (derivation_counted (told b)) e)
 
 -- ---- a listing
 listing_counted : (a : Listing) → Counted (listing_reply a)
 unfolding listing_reply
-listing_counted (listing.Text n) = tt
-listing_counted (listing.Needs n) = tt
+listing_counted (Ok n) = tt
+listing_counted (Err n) = tt
 
 -- and listings
 pub listing_crosses : (a b : Listing) → numbers_of (listing_reply a) ≡ numbers_of (listing_reply b) → a ≡ b
 listing_crosses a b e = listing_told a b (numbers_told _ _ (listing_counted a) (listing_counted b) e)
 
 -- ---- a property's place
-place_counted : (a : Place) → Counted (place_reply a)
+place_counted : (a : Located) → Counted (place_reply a)
 unfolding place_reply
-place_counted (place.Permanent n) = tt
-place_counted (place.Temporary n) = tt
-place_counted place.Unmentioned = tt
-place_counted (place.Refused f) = tt
+place_counted (Ok (place.Permanent n)) = tt
+place_counted (Ok (place.Temporary n)) = tt
+place_counted (Ok place.Unmentioned) = tt
+place_counted (Err n) = tt
 
 -- places whose parts in C are equal are the same answer, whatever the tables
-pub place_crosses : (p t : List ℕ) (a b : Place) → part_of p t (place_reply a) ≡ part_of p t (place_reply b) → a ≡ b
-place_crosses p t a b e = place_told a b (part_told p t _ _ (place_counted a) (place_counted b) e)
+pub place_crosses : (p t : List ℕ) (a b : Result Place Refusal)
+    → part_of p t (place_reply (told a)) ≡ part_of p t (place_reply (told b)) → a ≡ b
+place_crosses p t a b e = place_told a b (part_told p t _ _ (place_counted (told a)) (place_counted (told b)) e)

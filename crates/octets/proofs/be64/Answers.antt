@@ -1,6 +1,6 @@
--- `octets::be64` meets its contract: the number of the bytes, the lowest first, turned around. Assumes nothing.
-use Rattle.octets.proofs.Runs.{turn_told}
+-- `octets::be64` meets its contract: the number of the bytes that are there. Assumes nothing.
+use Rattle.octets.proofs.Readers.{be64_found}
 use Rattle.octets.proofs.be64.Goals as goal
 
 pub returns : goal.returns
-returns c = rw c.le64-a.ensures (turn_told _ _ (λ i. (c.shared_slice_known-1.given i).fits))
+returns c = be64_found c.args.s.now c.args.at c.array_at.result c.map_or.result c.array_at.ensures c.map_or.ensures

@@ -1,13 +1,7 @@
--- `octets::blank8` meets its contract: 8 bytes that are there are 0 each where their number is. Assumes nothing.
-use native.Mathlib.Omega.{arith}
-use Rattle.octets.proofs.Runs.{filled_low, filled_short}
+-- `octets::blank8` meets its contract: the bytes that are there are 0 each. Assumes nothing.
+use Rattle.std.proofs.Common.{◌∙◌}
+use Rattle.octets.proofs.Stored.{run_found}
 use Rattle.octets.proofs.blank8.Goals as goal
 
-pub returns-then-has : goal.returns-then-has
-returns-then-has c =
-    let h = c.before.before in
-    filled_low 0 (omega arith) _ _ (λ i. (h.shared_slice_known-1.given i).fits) _ h.has.ensures c.if-has.true _
-    c.le64.ensures
-
-pub returns-else-has : goal.returns-else-has
-returns-else-has c = filled_short 0 8 _ _ _ c.has.ensures c.if-has.false
+pub returns : goal.returns
+returns c = c.eq.ensures ∙ run_found 0 8 c.args.s.now c.args.at c.array_at.result c.array_at.ensures

@@ -4,4 +4,4 @@ use Rattle.timeslices.specs.Answers.{part_at}
 use Rattle.timeslices.proofs.part_at.Goals as goal
 
 pub returns : goal.returns
-returns c = ap (part_at c.args.kind c.args.place) c.stride_of-size.ensures
+returns c = ap (part_at c.args.kind c.args.place) c.stride_of.ensures

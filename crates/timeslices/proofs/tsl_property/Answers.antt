@@ -4,20 +4,24 @@ use Rattle.state.specs.Asking.{place_reply}
 use Rattle.timeslices.specs.Answers.{part_of}
 use Rattle.timeslices.proofs.tsl_property.Goals as goal
 
-pub returns-in-Permanent : goal.returns-in-Permanent
+pub returns-in-Ok-Permanent : goal.returns-in-Ok-Permanent
 unfolding place_reply
-returns-in-Permanent c =
-    c.part_at.ensures ∙ ap (part_of c.args.permanent.now c.args.temporary.now) c.in-Permanent.ensures
+returns-in-Ok-Permanent c =
+    let x = rw (c.in-Ok-Permanent.is, c.in-Ok-Permanent.field-0-is) at c.locate.ensures in
+    c.part_at.ensures ∙ ap (part_of c.args.permanent.now c.args.temporary.now) x
 
-pub returns-in-Temporary : goal.returns-in-Temporary
+pub returns-in-Ok-Temporary : goal.returns-in-Ok-Temporary
 unfolding place_reply
-returns-in-Temporary c =
-    c.part_at-in-Temporary.ensures ∙ ap (part_of c.args.permanent.now c.args.temporary.now) c.in-Temporary.ensures
+returns-in-Ok-Temporary c =
+    let x = rw (c.in-Ok-Temporary.is, c.in-Ok-Temporary.field-0-is) at c.locate.ensures in
+    c.part_at-in-Ok-Temporary.ensures ∙ ap (part_of c.args.permanent.now c.args.temporary.now) x
 
-pub returns-in-Unmentioned : goal.returns-in-Unmentioned
+pub returns-in-Ok-Unmentioned : goal.returns-in-Ok-Unmentioned
 unfolding place_reply
-returns-in-Unmentioned c = ap (part_of c.args.permanent.now c.args.temporary.now) c.in-Unmentioned.ensures
+returns-in-Ok-Unmentioned c =
+    ap (part_of c.args.permanent.now c.args.temporary.now) (rw (c.in-Ok-Unmentioned.is, c.in-Ok-Unmentioned.field-0-is) at c.locate.ensures)
 
-pub returns-in-Refused : goal.returns-in-Refused
+pub returns-in-Err : goal.returns-in-Err
 unfolding place_reply
-returns-in-Refused c = ap (part_of c.args.permanent.now c.args.temporary.now) c.in-Refused.ensures
+returns-in-Err c =
+    rw c.number.ensures (ap (part_of c.args.permanent.now c.args.temporary.now) (rw c.in-Err.is at c.locate.ensures))

@@ -2,12 +2,10 @@
 use mathlib.Core.Path.{◌≡◌, sym, ap, ◌∙◌}
 use mathlib.Core.Bool.{false}
 use native.Mathlib.Omega.{arith}
-use Rattle.laws.proofs.Tests.{tests}
-use Rattle.numbers.specs.Numbers.{no_instant}
 use Rattle.state.proofs.Walks.{read_by}
 use Rattle.baselines.specs.Sweeping.{is_two}
 use Rattle.baselines.specs.Steps.{counted_of}
-use Rattle.baselines.specs.declared.counting.Counted.TheVariants.{Records}
+use Rattle.std.specs.Prelude.{Ok}
 use Rattle.baselines.proofs.Going.{Turn, going_start, going_few, going_within, going_record, going_gone, going_two}
 use Rattle.baselines.proofs.Going.{going_on, going_past, going_more, going_end}
 use Rattle.baselines.proofs.counting.count_all.Goals as goal
@@ -26,19 +24,11 @@ turn c = record {
 }
 
 -- ---- an event is passed
-pub offset_bounds-events-at : goal.offset_bounds-events-at
-offset_bounds-events-at c =
-    omega (arith, going_within c.loop-s.invariant.2 (turn (goal.at.offset_bounds-events-at c).After-is) c.if-is.true)
-
 pub bounds-events-at : goal.bounds-events-at
 bounds-events-at c = (going_within c.loop-s.invariant.2 (turn (goal.at.bounds-events-at c).After-is) c.if-is.true).0
 
 pub pass-s-requires : goal.pass-s-requires
 pass-s-requires c = going_few c.loop-s.invariant.2
-
-pub overflow_add-at : goal.overflow_add-at
-overflow_add-at c =
-    omega (arith, going_within c.loop-s.invariant.2 (turn (goal.at.overflow_add-at c).After-is) c.if-is.true)
 
 pub loop-s-smaller-then-is : goal.loop-s-smaller-then-is
 loop-s-smaller-then-is c =
@@ -67,10 +57,6 @@ returns-then-is_two c =
     (sym c.is_two.ensures ∙ c.if-is_two.true) in
     sym (rw two)
 
-pub overflow_add-count : goal.overflow_add-count
-unfolding no_instant
-overflow_add-count c = let (_, _, g) = c.loop-s.invariant in omega (tests, g.counted, g.walked.most, g.walked.below)
-
 pub loop-s-smaller : goal.loop-s-smaller
 loop-s-smaller c =
     let (f, b) = going_on c.loop-s.invariant.2 (turn (goal.at.loop-s-smaller c).After-is) c.if-is.false
@@ -95,4 +81,4 @@ unfolding counted_of
 returns c =
     let (_, _, g) = c.loop-s.invariant in
     let (all, one) = going_end g (sym c.is_none.ensures ∙ c.loop-s-test.false) in
-    ap Records g.counted ∙ sym (rw (one, all))
+    ap Ok g.counted ∙ sym (rw (one, all))

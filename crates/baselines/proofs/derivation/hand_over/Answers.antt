@@ -13,7 +13,7 @@ use Rattle.table.specs.declared.check.Sides.TheVariants as sides
 use Rattle.table.proofs.Sound.{sound_table}
 use Rattle.baselines.specs.Deriving.{derived_records}
 use Rattle.baselines.specs.Steps.{handed_of}
-use Rattle.baselines.specs.declared.derivation.Derivation.TheVariants.{Derived}
+use Rattle.std.specs.Prelude.{Ok}
 use Rattle.baselines.proofs.DerivedTable.{feature_long, handed}
 use Rattle.baselines.proofs.Passes.{derived_long}
 use Rattle.baselines.proofs.derivation.hand_over.Goals as goal
@@ -52,7 +52,7 @@ pub returns-clause-answer : goal.returns-clause-answer
 unfolding handed_of
 returns-clause-answer c =
     let f = fits (goal.at.returns-clause-answer c).After-record_size c.if-output-count.false in
-    ap Derived c.requires.few.1
+    ap Ok c.requires.few.1
     ∙ sym (rw (le-ltb (length c.args.output.now) (32 + length (joined (derived_records c.args.permanent.now))) f))
 
 pub returns-clause-buffer : goal.returns-clause-buffer

@@ -18,9 +18,11 @@ use Rattle.baselines.proofs.drawing.draw_events.Goals as goal
 use Rattle.baselines.proofs.drawing.draw_events.Goals.{After-is, Then-is_known, then-place-lt256, else-place-lt256}
 
 pub loop-s-init : goal.loop-s-init
-loop-s-init c =
-    drawing_start (λ i. (c.type_inv.permanent i).fits) c.requires.sound c.requires.room c.requires.lines.0
-    c.requires.lines.1 c.head-t.ensures c.start-s.ensures
+loop-s-init c = record {
+  stride = c.requires.stride;
+  all = drawing_start (λ i. (c.type_inv.permanent i).fits) c.requires.sound c.requires.room c.requires.line
+      c.head-t.ensures c.start-s.ensures;
+}
 
 -- ---- a turn: the next event, and whether it is of the instant
 turn : (c : After-is) → Turn c.args.events.now c.loop-s.at c.loop-s.t c.head-next.result c.is.result
@@ -31,34 +33,23 @@ turn c = record {
 }
 
 -- ---- an event is passed
-pub offset_bounds-events-at : goal.offset_bounds-events-at
-offset_bounds-events-at c =
-    omega (arith, going_within c.loop-s.invariant.going (turn (goal.at.offset_bounds-events-at c).After-is) c.if-is.true)
-
 pub bounds-events-at : goal.bounds-events-at
 bounds-events-at c =
-    (going_within c.loop-s.invariant.going (turn (goal.at.bounds-events-at c).After-is) c.if-is.true).0
+    (going_within c.loop-s.invariant.all.going (turn (goal.at.bounds-events-at c).After-is) c.if-is.true).0
 
-pub carry-s-requires : goal.carry-s-requires
-carry-s-requires c =
+pub carry-requires : goal.carry-requires
+carry-requires c =
     let l = c.loop-s in
-    let stride : c.stride_of-stride.result ≡ stride_of c.args.permanent.now = c.stride_of-stride.ensures in (
-      rw stride l.invariant.long,
-      (
-        going_sized l.invariant.going (turn (goal.at.carry-s-requires c).After-is) c.if-is.true c.place_of-place.ensures
-            (read_by _ _ c.record_size-size.ensures c.record_at-record.ensures.bytes) c.if-place-lt256.true
-            ∙ ap record_size (sym stride),
-        going_few l.invariant.going,
-      ),
-    )
+    going_sized l.invariant.all.going (turn (goal.at.carry-requires c).After-is) c.if-is.true c.place_of-place.ensures
+    (read_by _ _ c.record_size-size.ensures c.record_at-record.ensures.bytes) c.if-place-lt256.true
+    ∙ ap record_size (sym l.invariant.stride)
 
-pub overflow_add-at : goal.overflow_add-at
-overflow_add-at c =
-    omega (arith, going_within c.loop-s.invariant.going (turn (goal.at.overflow_add-at c).After-is) c.if-is.true)
+pub pass-s-requires : goal.pass-s-requires
+pass-s-requires c = going_few c.loop-s.invariant.all.going
 
 pub loop-s-smaller-then-is : goal.loop-s-smaller-then-is
 loop-s-smaller-then-is c =
-    omega (arith, going_within c.loop-s.invariant.going (turn (goal.at.loop-s-smaller-then-is c).After-is) c.if-is.true)
+    omega (arith, going_within c.loop-s.invariant.all.going (turn (goal.at.loop-s-smaller-then-is c).After-is) c.if-is.true)
 
 pub loop-s-preserved-then-is : goal.loop-s-preserved-then-is
 loop-s-preserved-then-is c =
@@ -67,13 +58,17 @@ loop-s-preserved-then-is c =
     let place = c.place_of-place.ensures in
     elim c.if-place-lt256.branch [
       | then-place-lt256 w ↦
-          rw (w.base-is, w.line-is) (drawing_record l.invariant u c.if-is.true place
-          (read_by _ _ c.record_size-size.ensures w.record_at-record.ensures.bytes) w.if-place-lt256.true
-          c.stride_of-stride.ensures (w.s-is ∙ w.carry-s.ensures.sweep) w.carry-s.ensures.lines w.carry-s.auto.base
-          w.carry-s.auto.line)
+          rw w.lines-is record {
+            stride = w.carry.ensures.stride ∙ l.invariant.stride;
+            all = drawing_record l.invariant.all u c.if-is.true place
+                (read_by _ _ c.record_size-size.ensures w.record_at-record.ensures.bytes) w.if-place-lt256.true
+                l.invariant.stride (w.s-is ∙ w.pass-s.ensures) w.carry.ensures.lines;
+          }
       | else-place-lt256 w ↦
-          rw (w.base-is, w.line-is, w.s-is) (drawing_gone l.invariant u c.if-is.true
-          (λ h. omega (arith, w.if-place-lt256.false, place)))
+          rw (w.lines-is, w.s-is) record {
+            stride = l.invariant.stride;
+            all = drawing_gone l.invariant.all u c.if-is.true (λ h. omega (arith, w.if-place-lt256.false, place));
+          }
     ]
 
 -- ---- a change instant is done; where there is a state, its record
@@ -82,23 +77,8 @@ room : (c : Then-is_known) → Turn c.args.events.now c.loop-s.at c.loop-s.t c.h
     × (32 + c.loop-s.count * c.record_size-size.result + c.record_size-size.result ≤ 57376)
     × (32 + c.loop-s.count * c.record_size-size.result + c.record_size-size.result ≤ length c.loop-s.output)
 room c u =
-    drawing_room c.loop-s.invariant u c.if-is.false c.requires.sound.2
+    drawing_room c.loop-s.invariant.all u c.if-is.false c.requires.sound.2
     c.next_of-end.ensures (sym c.is_known.ensures ∙ c.if-is_known.true) c.record_size-size.ensures c.requires.room
-
-pub overflow_mul-from : goal.overflow_mul-from
-overflow_mul-from c = omega (arith, room (goal.at.overflow_mul-from c).Then-is_known (turn (goal.at.overflow_mul-from c).After-is))
-
-pub overflow_add-from : goal.overflow_add-from
-overflow_add-from c = omega (arith, room (goal.at.overflow_add-from c).Then-is_known (turn (goal.at.overflow_add-from c).After-is))
-
-pub overflow_add-count : goal.overflow_add-count
-overflow_add-count c = omega (arith, room (goal.at.overflow_add-count c).Then-is_known (turn (goal.at.overflow_add-count c).After-is))
-
-pub overflow_cast-sequence : goal.overflow_cast-sequence
-overflow_cast-sequence c = omega (arith, room (goal.at.overflow_cast-sequence c).Then-is_known (turn (goal.at.overflow_cast-sequence c).After-is))
-
-pub overflow_add-record : goal.overflow_add-record
-overflow_add-record c = omega (arith, room (goal.at.overflow_add-record c).Then-is_known (turn (goal.at.overflow_add-record c).After-is))
 
 pub slice_bounds-record-end : goal.slice_bounds-record-end
 slice_bounds-record-end c = omega (arith, room (goal.at.slice_bounds-record-end c).Then-is_known (turn (goal.at.slice_bounds-record-end c).After-is))
@@ -108,39 +88,43 @@ draw_known-requires c =
     let k = room (goal.at.draw_known-requires c).Then-is_known (turn (goal.at.draw_known-requires c).After-is) in
     let bytes = c.record_size-size.result in
     let from = 32 + c.loop-s.count * bytes in
-    let stride : c.stride_of-stride.result ≡ stride_of c.args.permanent.now = c.stride_of-stride.ensures in
-    let size : bytes ≡ record_size (stride_of c.args.permanent.now) = c.record_size-size.ensures in (
-      mid_len from (from + bytes) c.loop-s.output (omega (arith, k.2)) ∙ omega (arith, size) ∙ ap record_size (sym stride),
-      rw stride c.loop-s.invariant.long,
-    )
+    let size : bytes ≡ record_size (stride_of c.args.permanent.now) = c.record_size-size.ensures in
+    mid_len from (from + bytes) c.loop-s.output (omega (arith, k.2)) ∙ omega (arith, size)
+    ∙ ap record_size (sym c.loop-s.invariant.stride)
 
 pub loop-s-smaller-then-is_known : goal.loop-s-smaller-then-is_known
 loop-s-smaller-then-is_known c =
-    let (f, b) = drawing_on c.loop-s.invariant (turn (goal.at.loop-s-smaller-then-is_known c).After-is) c.if-is.false
+    let (f, b) = drawing_on c.loop-s.invariant.all (turn (goal.at.loop-s-smaller-then-is_known c).After-is) c.if-is.false
     c.requires.sound.2 c.next_of-end.ensures in
     omega (arith, f, b)
 
 pub loop-s-preserved-then-is_known : goal.loop-s-preserved-then-is_known
 loop-s-preserved-then-is_known c =
+    let l = c.loop-s in
     let bytes = c.record_size-size.result in
     let from = 32 + c.loop-s.count * bytes in
     let whole : from + bytes - from ≡ bytes = omega arith in
-    drawing_more c.loop-s.invariant (turn (goal.at.loop-s-preserved-then-is_known c).After-is) c.if-is.false
-    c.requires.sound.2 c.next_of-end.ensures (sym c.is_known.ensures ∙ c.if-is_known.true) c.record_size-size.ensures
-    c.requires.room c.stride_of-stride.ensures c.draw_known.ensures whole
+    record {
+      stride = l.invariant.stride;
+      all = drawing_more l.invariant.all (turn (goal.at.loop-s-preserved-then-is_known c).After-is) c.if-is.false
+          c.requires.sound.2 c.next_of-end.ensures (sym c.is_known.ensures ∙ c.if-is_known.true) c.record_size-size.ensures
+          c.requires.room l.invariant.stride c.draw_known.ensures whole;
+    }
 
 pub loop-s-smaller : goal.loop-s-smaller
 loop-s-smaller c =
-    let (f, b) = drawing_on c.loop-s.invariant (turn (goal.at.loop-s-smaller c).After-is) c.if-is.false
+    let (f, b) = drawing_on c.loop-s.invariant.all (turn (goal.at.loop-s-smaller c).After-is) c.if-is.false
     c.requires.sound.2 c.next_of-end.ensures in
     omega (arith, f, b)
 
 pub loop-s-preserved : goal.loop-s-preserved
-loop-s-preserved c =
-    drawing_past c.loop-s.invariant (turn (goal.at.loop-s-preserved c).After-is) c.if-is.false c.requires.sound.2
-    c.next_of-end.ensures (sym c.is_known.ensures ∙ c.if-is_known.false)
+loop-s-preserved c = record {
+  stride = c.loop-s.invariant.stride;
+  all = drawing_past c.loop-s.invariant.all (turn (goal.at.loop-s-preserved c).After-is) c.if-is.false c.requires.sound.2
+      c.next_of-end.ensures (sym c.is_known.ensures ∙ c.if-is_known.false);
+}
 
 pub returns : goal.returns
 returns c =
-    let (all, _) = going_end c.loop-s.invariant.going (sym c.is_none.ensures ∙ c.loop-s-test.false) in
-    c.loop-s.invariant.drawn ∙ ap (λ (d : List (List ℕ)). pasted c.args.output.now 32 (joined d)) (sym all)
+    let (all, _) = going_end c.loop-s.invariant.all.going (sym c.is_none.ensures ∙ c.loop-s-test.false) in
+    c.loop-s.invariant.all.drawn ∙ ap (λ (d : List (List ℕ)). pasted c.args.output.now 32 (joined d)) (sym all)

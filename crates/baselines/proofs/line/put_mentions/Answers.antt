@@ -1,6 +1,6 @@
--- `baselines::line::put_mentions` meets its contract. Assumes nothing.
+-- `baselines::line::put_mentions` meets its contract: each turn goes on from what the properties before have made. Assumes nothing.
 use Prim.Native.Nat.{ℕ, suc, ◌+◌, ◌*◌, ◌≤◌, ◌<◌}
-use mathlib.Core.Path.{◌≡◌, refl, sym, ap, subst, ◌∙◌}
+use mathlib.Core.Path.{◌≡◌, sym, ap, subst, ◌∙◌}
 use mathlib.Core.List.{List}
 use native.Mathlib.Omega.{arith}
 use lib.ListN.{length, drop, length-drop}
@@ -12,13 +12,9 @@ use Rattle.slice.specs.Record.{record_size, view_of}
 use Rattle.history.specs.State.{State}
 use Rattle.state.proofs.Slices.{property_at, view_eight, view_sized}
 use Rattle.baselines.specs.Carried.{Carries, line_size, record_of, mentions_over}
-use Rattle.baselines.proofs.Carried.{partly, partly_none, partly_skip, partly_put, partly_all, view_skips, view_says}
+use Rattle.baselines.proofs.Carried.{partly, partly_skip, partly_put, partly_all, view_skips, view_says}
 use Rattle.baselines.proofs.line.put_mentions.Goals as goal
 use Rattle.baselines.proofs.line.put_mentions.Goals.{then-byte-eq0, else-byte-eq0}
-
-pub loop-n-init : goal.loop-n-init
-loop-n-init c =
-    let a = c.args in (omega arith, (refl, λ s k. partly_none a.stride (view_of a.stride a.delta.now) s _ k))
 
 -- property n lies within the record
 within : (n stride : ℕ) (delta : List ℕ) → n < 8 → length delta ≡ record_size stride → 32 + n * stride + stride ≤ length delta
@@ -34,7 +30,7 @@ copy-requires c =
       | then-byte-eq0 w ↦ omega (arith, w.to-is, c.requires.0)
       | else-byte-eq0 w ↦ omega (arith, w.to-is, inside, c.requires.0)
     ] in
-    (omega (arith, to, c.loop-n.invariant.1.0, c.requires.1), inside)
+    (omega (arith, to, c.loop-n.auto.line, c.requires.1), inside)
 
 pub loop-n-preserved : goal.loop-n-preserved
 loop-n-preserved c =
@@ -48,7 +44,7 @@ loop-n-preserved c =
     let at : ℕ = 32 + n * stride in
     let bytes = property_at stride delta n in
     let bytes_long : length bytes ≡ stride = length-take-le stride (drop at delta) (simp length-drop (omega (arith, inside))) in
-    let long : length l.line ≡ line_size stride = l.invariant.1.0 ∙ c.requires.1 in
+    let long : length l.line ≡ line_size stride = omega (arith, c.requires.1) in
     let d = view_of stride delta in
     let eight = view_eight stride delta in
     let spoken = view_sized stride delta size in
@@ -58,7 +54,7 @@ loop-n-preserved c =
     let carried : (s : State) (h : Carries stride s (record_of stride c.args.line.now))
     → record_of stride c.copy.new.line ≡ partly stride d s _ h (suc n) =
     λ s h.
-    let was = l.invariant.1.1 s h in
+    let was = l.invariant s h in
     elim c.if-byte-eq0.branch [
       | then-byte-eq0 w ↦
           goes (record_size stride) (w.to-is ∙ size)
@@ -74,7 +70,7 @@ loop-n-preserved c =
           (view_says stride delta n few size (λ z. w.if-byte-eq0.false (c.byte.ensures ∙ z))) few bytes_long
     ] in
     let more : n + 1 ≡ suc n = omega arith in
-    (omega arith, (c.copy.auto.line ∙ l.invariant.1.0, λ s h. rw more (carried s h)))
+    λ s h. rw more (carried s h)
 
 pub returns : goal.returns
 returns c =
@@ -83,5 +79,5 @@ returns c =
     let stride = c.args.stride in
     let d = view_of stride delta in
     let e : l.n ≡ 8 = omega arith in
-    λ t h. subst (Carries stride (mentions_over d t)) (sym (l.invariant.1.1 t h ∙ ap (partly stride d t _ h) e))
+    λ t h. subst (Carries stride (mentions_over d t)) (sym (l.invariant t h ∙ ap (partly stride d t _ h) e))
     (partly_all stride d t _ h (view_eight stride delta) (view_sized stride delta c.requires.0))

@@ -1,6 +1,6 @@
 -- `baselines::line::put_unknown` meets its contract. Assumes nothing.
-use Prim.Native.Nat.{ℕ, ◌+◌, ◌*◌, ◌≤◌, ◌<◌}
-use mathlib.Core.Path.{◌≡◌, refl, sym, ap, subst, ◌∙◌}
+use Prim.Native.Nat.{ℕ, ◌+◌, ◌*◌}
+use mathlib.Core.Path.{◌≡◌, sym, ap, subst, ◌∙◌}
 use mathlib.Core.List.{List, [], ◌∷◌}
 use native.Mathlib.Omega.{arith}
 use lib.ListN.{length, replicate, length-replicate, replicate-append-replicate}
@@ -20,43 +20,28 @@ loop-n-init c =
     let long : length line ≡ line_size n = ap length c.requires.0 ∙ length-replicate (line_size n) 0 in
     let zeros : record_of n line ≡ replicate (record_size n) 0 =
     ap (record_of n) (c.requires.0 ∙ sym (replicate-append-replicate (record_size n) n 0))
-    ∙ take_at (replicate (record_size n) 0) (replicate n 0) (record_size n) (length-replicate (record_size n) 0) in (
-      omega arith,
-      (
-        refl,
-        ap (record_of n) c.put.ensures
-            ∙ take_pasted (record_size n) line (replicate 8 255) 16 (omega arith) (omega (arith, long))
-            ∙ ap (λ (l : List ℕ). pasted l 16 (replicate 8 255)) zeros
-            ∙ unknown_none n c.requires.1,
-      ),
-    )
-
--- property n lies within the record
-within : (n stride : ℕ) → n < 8 → 32 + n * stride + stride ≤ record_size stride
-within n stride h = omega (arith, piece_within stride n 8 h)
+    ∙ take_at (replicate (record_size n) 0) (replicate n 0) (record_size n) (length-replicate (record_size n) 0) in
+    ap (record_of n) c.put.ensures
+    ∙ take_pasted (record_size n) line (replicate 8 255) 16 (omega arith) (omega (arith, long))
+    ∙ ap (λ (l : List ℕ). pasted l 16 (replicate 8 255)) zeros
+    ∙ unknown_none n c.requires.1
 
 pub loop-n-preserved : goal.loop-n-preserved
 loop-n-preserved c =
     let l = c.loop-n in
     let n = l.n in
     let stride = c.args.stride in
-    let inside = within n stride c.loop-n-test.true in
-    let long : length l.line ≡ line_size stride =
-    l.invariant.1.0 ∙ c.put.auto.s ∙ ap length c.requires.0 ∙ length-replicate (line_size stride) 0 in
-    let wide = c.requires.1 in (
-      omega arith,
-      (
-        c.put-in-loop-n.auto.s ∙ l.invariant.1.0,
-        ap (record_of stride) c.put-in-loop-n.ensures
-            ∙ take_pasted (record_size stride) l.line (1 ∷ 4 ∷ []) (32 + n * stride) (omega (arith, inside, wide)) (omega (arith, long))
-            ∙ ap (λ (d : List ℕ). pasted d (32 + n * stride) (1 ∷ 4 ∷ [])) l.invariant.1.1
-            ∙ unknown_more stride wide n c.loop-n-test.true,
-      ),
-    )
+    let inside = piece_within stride n 8 (omega arith) in
+    let long : length l.line ≡ line_size stride = omega (arith, ap length c.requires.0 ∙ length-replicate (line_size stride) 0) in
+    let wide = c.requires.1 in
+    ap (record_of stride) c.put-in-loop-n.ensures
+    ∙ take_pasted (record_size stride) l.line (1 ∷ 4 ∷ []) (32 + n * stride) (omega (arith, inside, wide)) (omega (arith, long))
+    ∙ ap (λ (d : List ℕ). pasted d (32 + n * stride) (1 ∷ 4 ∷ [])) l.invariant
+    ∙ unknown_more stride wide n c.loop-n-test.true
 
 pub returns : goal.returns
 returns c =
     let l = c.loop-n in
     let stride = c.args.stride in
     let e : l.n ≡ 8 = omega arith in
-    subst (Carries stride unknown_state) (sym (l.invariant.1.1 ∙ ap (unknown_to stride) e)) (unknown_carried stride c.requires.1)
+    subst (Carries stride unknown_state) (sym (l.invariant ∙ ap (unknown_to stride) e)) (unknown_carried stride c.requires.1)

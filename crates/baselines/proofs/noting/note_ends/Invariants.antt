@@ -1,5 +1,4 @@
 -- The loop: the life ends of the records so far are noted, and these are BASELINEs.
-use Prim.Native.Nat.{◌-◌}
 use mathlib.Core.List.{◌++◌}
 use lib.ListN.{take}
 use Rattle.state.specs.Asking.{slices_of}
@@ -11,6 +10,3 @@ abbrev pub invariant-loop-i : goal.invariant-loop-i
 invariant-loop-i l =
     Noting l.permanent gone_of (λ _. nowhere) (take l.from l.initial.events ++ life_ends 0 (slices_of l.permanent)) l.from
     l.events l.n l.i
-
-abbrev pub decreases-loop-i : goal.decreases-loop-i
-decreases-loop-i l = l.count - l.i

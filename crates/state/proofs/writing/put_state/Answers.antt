@@ -14,9 +14,8 @@ use Rattle.state.proofs.writing.put_state.Goals as goal
 
 pub returns : goal.returns
 returns c =
-    let s = c.before.before.before.before.before.before.before.before.before.before.before.before in
-    let p = s.requires in
-    let a = s.args in
+    let p = c.requires in
+    let a = c.args in
     let f = property_from a.permanent.now a.temporary.now a.start a.mentions.marks a.passing in
     let long =
     from_length a.permanent.now a.temporary.now p.anchor.whole p.whole a.start a.mentions.marks a.passing

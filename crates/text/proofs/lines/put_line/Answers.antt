@@ -11,7 +11,7 @@ returns c =
     let n = q.before.before.before.before.before in
     let k = n.before.before.before in
     let a = k.args in
-    let number = rw k.key_of-key.ensures at n.put_number-first.ensures in
+    let number = rw k.key_of.ensures at n.put_number-first.ensures in
     let period = rw q.period_of.ensures at q.put_period-second.ensures in
     rw (line_pieces a.stride a.«record».now)
     (then (omega arith) number (then (omega arith) period (then (omega arith) f.put_forms-third.ensures p.put_letters.ensures)))

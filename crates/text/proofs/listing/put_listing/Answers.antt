@@ -1,6 +1,7 @@
 -- `text::listing::put_listing` meets its contract: the text of what the derivation answers. Assumes nothing.
-use Rattle.std.proofs.Common.{rules, arith}
-use Rattle.baselines.proofs.Replies.{derivation_told}
+use Rattle.std.proofs.Common.{rules, arith, ap}
+use Rattle.slice.specs.Refusing.{told}
+use Rattle.baselines.proofs.Replies.{derivation_same}
 use Rattle.text.proofs.ListingRecords.{derived_room, derived_text, refused_text}
 use Rattle.text.proofs.TextWriting.{wrote_most}
 use Rattle.text.proofs.listing.put_listing.Goals as goal
@@ -8,16 +9,16 @@ use Rattle.text.proofs.listing.put_listing.Goals as goal
 pub put_derived-requires : goal.put_derived-requires
 put_derived-requires c =
     let d = c.derive in
-    (derived_room _ _ (derivation_told _ _ d.ensures.answer) _ d.ensures.buffer _ c.in-Derived.is, search rules)
+    (derived_room _ _ (derivation_same _ _ d.ensures.answer) _ d.ensures.buffer _ (ap told c.in-Ok.is), search rules)
 
-pub returns-in-Derived : goal.returns-in-Derived
-returns-in-Derived c =
+pub returns-in-Ok : goal.returns-in-Ok
+returns-in-Ok c =
     let d = c.derive in
-    rw (derived_text _ _ (derivation_told _ _ d.ensures.answer) _ d.ensures.buffer _ c.in-Derived.is) at
+    rw (derived_text _ _ (derivation_same _ _ d.ensures.answer) _ d.ensures.buffer _ (ap told c.in-Ok.is)) at
     c.put_derived.ensures
 
-pub returns-in-Refused : goal.returns-in-Refused
-returns-in-Refused c =
+pub returns-in-Err : goal.returns-in-Err
+returns-in-Err c =
     let d = c.derive in
     wrote_most (omega arith)
-    (rw (refused_text _ _ (derivation_told _ _ d.ensures.answer) _ c.in-Refused.is) at c.put_refused.ensures)
+    (rw (refused_text _ _ (derivation_same _ _ d.ensures.answer) _ (ap told c.in-Err.is)) at c.put_refused.ensures)

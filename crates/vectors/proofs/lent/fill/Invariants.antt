@@ -1,6 +1,0 @@
--- The loop ends: what is left of the pairs falls.
-use Rattle.std.proofs.Common.{◌-◌}
-use Rattle.vectors.proofs.lent.fill.Given as goal
-
-abbrev pub decreases-loop-i : goal.decreases-loop-i
-decreases-loop-i l = l.n - l.i

@@ -1,0 +1,234 @@
+// What the library answers, as it is printed. What prints as one piece is written whole or not at all.
+use property::{FirstBad, LengthUnit, Value};
+use slice::Refusal;
+use state::{Place, Source, Touched};
+use std::fmt;
+use std::fmt::{Display, Formatter, InlineText, Write};
+use table::Arrival;
+use text::Needs;
+
+// What a call gives, or its refusal, which prints as its number.
+#[derive(Clone, Copy)]
+pub struct Reply<T>(pub Result<T, Refusal>);
+
+impl<T: Display> Display for Reply<T> {
+    fn fmt<W: Write>(&self, f: &mut Formatter<W>) -> fmt::Result {
+        match &self.0 {
+            Ok(given) => given.fmt(f),
+            Err(refusal) => refusal.number().fmt(f),
+        }
+    }
+}
+
+// A word, with its blank, and a number.
+#[derive(Clone, Copy)]
+pub struct Counted(&'static str, usize);
+
+impl Display for Counted {
+    fn fmt<W: Write>(&self, f: &mut Formatter<W>) -> fmt::Result {
+        let Counted(word, count) = *self;
+        write!(f, "{word}{count}")
+    }
+}
+
+// The reply of a check.
+pub fn checked(check: Result<(), Refusal>) -> Reply<&'static str> {
+    Reply(check.map(|()| "0"))
+}
+
+// The reply of making a table.
+pub fn created(creation: Result<(), Refusal>) -> Reply<&'static str> {
+    Reply(creation.map(|()| "made"))
+}
+
+// The reply of an arrival.
+pub fn arrived(arrival: Result<Arrival, Refusal>) -> Reply<&'static str> {
+    Reply(arrival.map(|accepted| match accepted {
+        Arrival::Added => "added",
+        Arrival::Replaced => "replaced",
+        Arrival::Superseded => "superseded",
+        Arrival::Repeat => "repeat",
+    }))
+}
+
+// The reply of a question that writes a record.
+pub fn written(outcome: Result<(), Refusal>) -> Reply<&'static str> {
+    Reply(outcome.map(|()| "written"))
+}
+
+// The reply to whether a property is touched, with how many records were looked at.
+pub fn touched(found: Result<Touched, Refusal>) -> Reply<Counted> {
+    Reply(found.map(|touched| match touched {
+        Touched::Yes(looked) => Counted("yes ", looked),
+        Touched::No(looked) => Counted("no ", looked),
+    }))
+}
+
+// The reply of a derivation, with how many baselines there are.
+pub fn derived(derivation: Result<usize, Refusal>) -> Reply<Counted> {
+    Reply(derivation.map(|count| Counted("derived ", count)))
+}
+
+// What a listing answers, with the length of its text.
+pub fn listed(listing: Result<usize, Needs>) -> Counted {
+    match listing {
+        Ok(length) => Counted("text ", length),
+        Err(Needs(length)) => Counted("needs ", length),
+    }
+}
+
+// What the check of eight properties finds, with a place or how many are mentioned.
+pub fn surveyed(survey: Result<usize, FirstBad>) -> Counted {
+    match survey {
+        Ok(mentions) => Counted("sound ", mentions),
+        Err(FirstBad(place)) => Counted("bad ", place),
+    }
+}
+
+// Which table a property's bytes are in, and where in it, if they are in one.
+fn placed(place: Result<Place, Refusal>) -> (Reply<&'static str>, Option<usize>) {
+    match place {
+        Ok(Place::Permanent(offset)) => (Reply(Ok("permanent")), Some(offset)),
+        Ok(Place::Temporary(offset)) => (Reply(Ok("temporary")), Some(offset)),
+        Ok(Place::Unmentioned) => (Reply(Ok("unmentioned")), None),
+        Err(refusal) => (Reply(Err(refusal)), None),
+    }
+}
+
+// Which table is named for a property.
+fn named(source: Result<Source, Refusal>) -> Reply<&'static str> {
+    Reply(source.map(|table| match table {
+        Source::Permanent => "permanent",
+        Source::Temporary => "temporary",
+        Source::Unmentioned => "unmentioned",
+    }))
+}
+
+// What the three questions about a property answer: where it is, which table has it, and its bytes.
+#[derive(Clone, Copy)]
+pub struct Found<'a> {
+    pub place: Result<Place, Refusal>,
+    pub source: Result<Source, Refusal>,
+    pub bytes: &'a [u8],
+}
+
+impl Display for Found<'_> {
+    fn fmt<W: Write>(&self, f: &mut Formatter<W>) -> fmt::Result {
+        let (table, offset) = placed(self.place);
+        let named = named(self.source);
+        table.fmt(f)?;
+        if let Some(offset) = offset {
+            write!(f, " {offset}")?;
+        }
+        if !self.bytes.is_empty() {
+            write!(f, " {}", Bytes(self.bytes))?;
+        }
+        if table.0 != named.0 {
+            write!(f, " but {named}")?;
+        }
+        Ok(())
+    }
+}
+
+// The bytes that a call changed, from what they were to what they are: each run of them behind its place.
+#[derive(Clone, Copy)]
+pub struct Changes<'a>(pub &'a [u8], pub &'a [u8]);
+
+impl Display for Changes<'_> {
+    fn fmt<W: Write>(&self, f: &mut Formatter<W>) -> fmt::Result {
+        let mut end = None;
+        for (place, (old, new)) in self.0.iter().zip(self.1).enumerate() {
+            if old != new {
+                if end != Some(place) {
+                    write!(f, " {place}:")?;
+                }
+                Byte(*new).fmt(f)?;
+                end = place.checked_add(1);
+            }
+        }
+        Ok(())
+    }
+}
+
+// Bytes as hexadecimal digits.
+#[derive(Clone, Copy)]
+struct Bytes<'a>(&'a [u8]);
+
+impl Display for Bytes<'_> {
+    fn fmt<W: Write>(&self, f: &mut Formatter<W>) -> fmt::Result {
+        for byte in self.0 {
+            Byte(*byte).fmt(f)?;
+        }
+        Ok(())
+    }
+}
+
+// A byte as two hexadecimal digits, one piece.
+#[derive(Clone, Copy)]
+struct Byte(u8);
+
+impl Display for Byte {
+    fn fmt<W: Write>(&self, f: &mut Formatter<W>) -> fmt::Result {
+        f.write_str(InlineText::<2>::of(format_args!("{:02x}", self.0)).as_str())
+    }
+}
+
+// The bits of a double as 16 hexadecimal digits, one piece. Each NaN prints as one NaN.
+#[derive(Clone, Copy)]
+struct Bits(f64);
+
+impl Display for Bits {
+    fn fmt<W: Write>(&self, f: &mut Formatter<W>) -> fmt::Result {
+        let bits = if self.0.is_nan() {
+            0x7ff8_0000_0000_0000
+        } else {
+            self.0.to_bits()
+        };
+        f.write_str(InlineText::<16>::of(format_args!("{bits:016x}")).as_str())
+    }
+}
+
+// The line of a property's value. A word and the end of its line are one piece.
+#[derive(Clone, Copy)]
+pub struct Line(pub Option<Value>);
+
+impl Display for Line {
+    fn fmt<W: Write>(&self, f: &mut Formatter<W>) -> fmt::Result {
+        match self.0 {
+            Some(value) => write_value(f, value),
+            None => f.write_str("broken\n"),
+        }
+    }
+}
+
+// Writes the line of a value.
+fn write_value<W: Write>(f: &mut Formatter<W>, value: Value) -> fmt::Result {
+    match value {
+        Value::Unmentioned => f.write_str("unmentioned\n"),
+        Value::Inapplicable => f.write_str("inapplicable\n"),
+        Value::Missing => f.write_str("missing\n"),
+        Value::Template => f.write_str("template\n"),
+        Value::Unknown => f.write_str("unknown\n"),
+        Value::Withheld => f.write_str("withheld\n"),
+        Value::Code(code) => writeln!(f, "code {code}"),
+        Value::Number(number) => write_number(f, number),
+        Value::Length(length, unit) => write!(f, "length {}{}", Bits(length), ending(unit)),
+        Value::Point(p) => writeln!(f, "point {} {}", Bits(p.latitude), Bits(p.longitude)),
+    }
+}
+
+// Writes the line of a whole number, its sign a piece of its own.
+fn write_number<W: Write>(f: &mut Formatter<W>, number: i32) -> fmt::Result {
+    let sign = if number < 0 { "-" } else { "" };
+    writeln!(f, "number {sign}{}", number.unsigned_abs())
+}
+
+// How the line of a length ends, one piece.
+fn ending(unit: LengthUnit) -> &'static str {
+    match unit {
+        LengthUnit::M => " M\n",
+        LengthUnit::FT => " FT\n",
+        LengthUnit::KM => " KM\n",
+        LengthUnit::NM => " NM\n",
+    }
+}
