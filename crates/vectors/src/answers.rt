@@ -1,5 +1,5 @@
 // The text of the answers, for which there is so much room.
-use std::alloc::{AllocError, Global};
+use std::alloc::Global;
 use std::fmt;
 use std::fmt::{Display, Write};
 
@@ -26,8 +26,8 @@ impl Answers {
     }
 
     // Adds what a value prints, for `write!` and `writeln!`. It is for memory alone that this fails.
-    pub fn write_fmt<D: Display + Drop>(&mut self, value: D) -> Result<(), AllocError> {
-        Write::write_fmt(self, value).map_err(|_| AllocError)
+    pub fn write_fmt<D: Display + Drop>(&mut self, value: D) -> fmt::Result {
+        Write::write_fmt(self, value)
     }
 }
 

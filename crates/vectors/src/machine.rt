@@ -5,7 +5,7 @@ use crate::replies;
 use crate::replies::{Changes, Found, Line};
 use numbers::Instant;
 use std::alloc::{AllocError, Global};
-use std::mem;
+use std::{fmt, mem};
 use table::Sides;
 
 // The most bytes that a table, a record and an output have.
@@ -55,7 +55,7 @@ impl Machine {
     }
 
     // Makes bytes anew, or puts a question and writes its answer.
-    pub fn obey(&mut self, command: Command<'_>) -> Result<(), AllocError> {
+    pub fn obey(&mut self, command: Command<'_>) -> fmt::Result {
         match command {
             Command::Buffer(bytes) => copy(&mut self.buffer, bytes)?,
             Command::Feature(bytes) => copy(&mut self.feature, bytes)?,
@@ -104,32 +104,32 @@ impl Machine {
     }
 
     // Asks for the value of the buffer as one property.
-    fn decode(&mut self) -> Result<(), AllocError> {
+    fn decode(&mut self) -> fmt::Result {
         let decoded = property::decode(&self.buffer);
         write!(self.answers, "{}", Line(decoded))
     }
 
     // Asks for the check of the buffer as eight properties.
-    fn check_eight(&mut self) -> Result<(), AllocError> {
+    fn check_eight(&mut self) -> fmt::Result {
         let survey = property::check_eight(&self.buffer, STRIDE);
         writeln!(self.answers, "{}", replies::surveyed(survey))
     }
 
     // Asks for the check of the buffer as a slice.
-    fn check_slice(&mut self, side: u8) -> Result<(), AllocError> {
+    fn check_slice(&mut self, side: u8) -> fmt::Result {
         let check = slice::check_slice(&self.buffer, STRIDE, &self.feature, side);
         writeln!(self.answers, "{}", replies::checked(check))
     }
 
     // Asks for the check of the table.
-    fn check_table(&mut self, sides: Sides) -> Result<(), AllocError> {
+    fn check_table(&mut self, sides: Sides) -> fmt::Result {
         copy(&mut self.before, &self.table)?;
         let check = table::check_table(&self.table, sides);
         writeln!(self.answers, "{}", replies::checked(check))
     }
 
     // Asks for a new table. A short feature is filled up with zeros.
-    fn new_table(&mut self, side: u8) -> Result<(), AllocError> {
+    fn new_table(&mut self, side: u8) -> fmt::Result {
         copy(&mut self.before, &self.table)?;
         let mut feature = [0; 16];
         for (to, from) in feature.iter_mut().zip(&self.feature) {
@@ -141,7 +141,7 @@ impl Machine {
     }
 
     // Asks for the arrival of the buffer at the table.
-    fn arrive(&mut self) -> Result<(), AllocError> {
+    fn arrive(&mut self) -> fmt::Result {
         copy(&mut self.before, &self.table)?;
         let arrival = table::arrive(&mut self.table, &self.buffer);
         let changes = Changes(&self.before, &self.table);
@@ -149,7 +149,7 @@ impl Machine {
     }
 
     // Asks for the permanent state, into the record.
-    fn permanent_state(&mut self) -> Result<(), AllocError> {
+    fn permanent_state(&mut self) -> fmt::Result {
         let before = self.record.clone()?;
         let outcome = state::permanent_state(&self.table, self.instant, &mut self.record);
         let changes = Changes(&before, &self.record);
@@ -157,7 +157,7 @@ impl Machine {
     }
 
     // Asks for the snapshot, into the record.
-    fn snapshot(&mut self) -> Result<(), AllocError> {
+    fn snapshot(&mut self) -> fmt::Result {
         let before = self.record.clone()?;
         let outcome = state::snapshot(&self.table, &self.other, self.instant, &mut self.record);
         let changes = Changes(&before, &self.record);
@@ -165,7 +165,7 @@ impl Machine {
     }
 
     // Asks for a property, by the three questions about it.
-    fn property(&mut self, number: u8) -> Result<(), AllocError> {
+    fn property(&mut self, number: u8) -> fmt::Result {
         let found = Found {
             place: state::locate(&self.table, &self.other, self.instant, number),
             source: state::source_of(&self.table, &self.other, self.instant, number),
@@ -175,13 +175,13 @@ impl Machine {
     }
 
     // Asks whether the other table, as the temporary one, touches a property.
-    fn touched(&mut self, number: u8) -> Result<(), AllocError> {
+    fn touched(&mut self, number: u8) -> fmt::Result {
         let touched = state::touched(&self.other, self.instant, number);
         writeln!(self.answers, "{}", replies::touched(touched))
     }
 
     // Asks for the derived baselines of the table, into the output.
-    fn derive(&mut self) -> Result<(), AllocError> {
+    fn derive(&mut self) -> fmt::Result {
         let before = self.output.clone()?;
         let derivation = baselines::derive(&self.table, &mut self.output);
         let changes = Changes(&before, &self.output);
@@ -189,7 +189,7 @@ impl Machine {
     }
 
     // Asks for the listing of the table, into the output.
-    fn list(&mut self) -> Result<(), AllocError> {
+    fn list(&mut self) -> fmt::Result {
         let before = self.output.clone()?;
         let listing = text::list(&self.table, &mut self.output);
         let changes = Changes(&before, &self.output);

@@ -39,7 +39,7 @@ mod replies;
 
 use crate::command::Command;
 use crate::machine::Machine;
-use std::alloc::{AllocError, Global};
+use std::alloc::Global;
 use std::io;
 use std::io::{Read, Write};
 
@@ -47,7 +47,7 @@ use std::io::{Read, Write};
 const INPUT: u64 = 4_194_304;
 
 // Obeys each line of the input, and answers the machine as they leave it.
-fn run(alloc: Global, input: &[u8]) -> Result<Machine, AllocError> {
+fn run(alloc: Global, input: &[u8]) -> io::Result<Machine> {
     let mut machine = Machine::new(alloc);
     let mut bytes = Vec::new(alloc);
     for line in input.split(|byte| *byte == b'\n') {
