@@ -1,15 +1,15 @@
 -- Laws of runs of bytes: a run is told by the number that it makes. Assumes nothing.
 use Prim.Native.Nat.{ℕ, zero, suc, ◌+◌, ◌*◌, ◌-◌, ◌^◌, ◌/◌, ◌%◌, ◌≤◌, ◌<◌}
 use mathlib.Core.Path.{◌≡◌, refl, sym, ◌∙◌, ap}
-use mathlib.Core.List.{List}
-use mathlib.Core.Bool.{Bool, true, false, ◌&&◌, and_assoc, and-true, and-false}
+use mathlib.Core.List.{List, ◌++◌}
+use mathlib.Core.Bool.{Bool, true, false, ◌&&◌, ◌||◌, and_assoc, and-true, and-false}
 use native.Mathlib.Nat.{add-zero, zero-add, mul_assoc, mul-le-mul_right, pow-suc}
 use native.Mathlib.Omega.{arith}
-use lib.ListN.{length, drop, length-drop}
-use lib.Seq.{ext_get_or, get_or-drop}
+use lib.ListN.{length, take, drop, length-drop, take-append-drop}
+use lib.Seq.{ext_get_or, get_or-drop, take_all}
 use lib.Dec.{leb, ltb, eqb}
 use lib.Pointwise.{pointwise, bytes_decides}
-use borrow.Author.Tests.{le-leb, eq-eqb, leb-true, eqb-true, eqb-false}
+use borrow.Author.Tests.{le-leb, eq-eqb, ne_eqb, leb-true, eqb-true, eqb-false}
 use Rattle.laws.proofs.Tests.{tests, iff, by-test, and_both}
 use Rattle.octets.specs.Bytes.{byte_of, Bytes, digits, each, there, be_of, le_of, filled, same_bytes}
 use Rattle.octets.proofs.Readers.{le_whole, digits_below}
@@ -209,6 +209,34 @@ bytes_same a b e =
 pub pairs_same : (a b : List ℕ) → pointwise eqb a b ≡ same_bytes a b
 pairs_same a b =
     iff _ _ (λ e. bytes_same a b ((bytes_decides a b).0 e)) (λ e. (bytes_decides a b).1 (same_bytes_lem a b e))
+
+-- and where they are so in front and behind
+behind : (n : ℕ) (a : List ℕ) → take (length a - n) (drop n a) ≡ drop n a
+behind n a = take_all (length a - n) (drop n a) (omega (arith, length-drop n a))
+
+pub fronts_same : (n : ℕ) (a b : List ℕ) → pointwise eqb (take n a) (take n b) ≡ (same_bytes a b || pointwise eqb (take n a) (take n b))
+fronts_same n a b =
+    by-test (same_bytes a b)
+    (λ e. rw e ((bytes_decides (take n a) (take n b)).1 (ap (take n) (same_bytes_lem a b e))))
+    (λ e. rw e)
+
+pub rests_same : (n : ℕ) (a b : List ℕ) → pointwise eqb (take n a) (take n b) ≡ true
+    → pointwise eqb (take (length a - n) (drop n a)) (take (length b - n) (drop n b)) ≡ same_bytes a b
+rests_same n a b f =
+    let front : take n a ≡ take n b = (bytes_decides (take n a) (take n b)).0 f in
+    iff _ _
+    (λ e. let rest : drop n a ≡ drop n b =
+    sym (behind n a) ∙ (bytes_decides (take (length a - n) (drop n a)) (take (length b - n) (drop n b))).0 e ∙ behind n b in
+    bytes_same a b (sym (take-append-drop n a) ∙ (λ i. front i ++ rest i) ∙ take-append-drop n b))
+    (λ e. (bytes_decides (take (length a - n) (drop n a)) (take (length b - n) (drop n b))).1
+    (ap (λ (l : List ℕ). take (length l - n) (drop n l)) (same_bytes_lem a b e)))
+
+-- lists that are not as long are not the same
+pub lengths_differ : (a b : List ℕ) → (length a ≡ length b → ⊥) → same_bytes a b ≡ false
+unfolding same_bytes
+lengths_differ a b h = rw (ne_eqb (length a) (length b) h)
+
+pub ruleset parts_same = (lengths_differ, fronts_same, rests_same)
 
 -- ---- runs of a part
 -- the n places from k + at on, of a list that starts at k

@@ -11,15 +11,13 @@ use Rattle.std.proofs.lemmas.List.{get_or-replicate}
 use lib.Pointwise.{pointwise, bytes_decides}
 use lib.Dec.{eqb}
 use borrow.Author.Tests.{eqb-true, eq-eqb, le-leb, lt-leb}
-use Rattle.std.specs.Prelude.{Option, Some, None}
-use Rattle.std.specs.Option.{option_eq}
 use Rattle.laws.specs.Lists.{pieces}
 use Rattle.laws.specs.Keyed.{In}
 use Rattle.laws.proofs.Tests.{and_both, iff}
 use Rattle.octets.specs.Bytes.{byte_of, digits, each, there, be_of, filled, Bytes}
 use Rattle.octets.specs.Writing.{bytes_of}
 use Rattle.octets.proofs.Runs.{each_at, each_all, filled_short}
-use Rattle.octets.proofs.Readers.{be_whole, Found, taken}
+use Rattle.octets.proofs.Readers.{be_whole, taken}
 
 -- ---- parts of a list of bytes
 bytes_take : (n : ℕ) (l : List ℕ) → Bytes l → Bytes (take n l)
@@ -85,13 +83,15 @@ bytes_full v r n at k e =
     (sym (taken n r at i l) ∙ ap (λ (x : List ℕ). byte_of x i) e ∙ get_or-replicate n i v 0 l)))
 
 -- n bytes that were looked up are compared with v
-pub run_found : (v n : ℕ) (r : List ℕ) (at : ℕ) (o : Option (List ℕ)) → Found n r at o
-    → option_eq (pointwise eqb) o (Some (replicate n v)) ≡ filled v n r at
-run_found v n r at None h = filled_short v n r at false (sym (lt-leb _ _ h)) refl
-run_found v n r at (Some a) h =
+pub filled_not : (v n : ℕ) (r : List ℕ) (at : ℕ) → length r < at + n → filled v n r at ≡ false
+filled_not v n r at h = sym (filled_short v n r at false (sym (lt-leb _ _ h)) refl)
+
+pub filled_taken : (v n : ℕ) (r : List ℕ) (at : ℕ) → at + n ≤ length r
+    → filled v n r at ≡ pointwise eqb (take n (drop at r)) (replicate n v)
+filled_taken v n r at h =
     iff _ _
-    (λ e. bytes_full v r n at h.0 (sym h.1 ∙ (bytes_decides a (replicate n v)).0 e))
-    (λ e. (bytes_decides a (replicate n v)).1 (h.1 ∙ full_bytes v r n at e h.0))
+    (λ e. (bytes_decides (take n (drop at r)) (replicate n v)).1 (full_bytes v r n at e h))
+    (λ e. bytes_full v r n at h ((bytes_decides (take n (drop at r)) (replicate n v)).0 e))
 
 -- a run in front of what is behind it
 pub cut : (n at : ℕ) (r x : List ℕ) → take n (drop at r) ≡ x → drop at r ≡ x ++ drop (at + n) r

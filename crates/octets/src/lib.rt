@@ -24,6 +24,7 @@ fn array_at<const N: usize>(s: &[u8], at: usize) -> Option<[u8; N]>
 }
 
 // The number of two bytes at `at`, or 0 unless both are there.
+#[tactic(auto, using(crate::proofs::Readers::be_short, crate::proofs::Readers::be16_taken))]
 pub fn be16(s: &[u8], at: usize) -> u16
     ensures { result ≡ be_of 2 s.now at }
 {
@@ -31,6 +32,7 @@ pub fn be16(s: &[u8], at: usize) -> u16
 }
 
 // The number of four bytes at `at`, or 0 unless all are there.
+#[tactic(auto, using(crate::proofs::Readers::be_short, crate::proofs::Readers::be32_taken))]
 pub fn be32(s: &[u8], at: usize) -> u32
     ensures { result ≡ be_of 4 s.now at }
 {
@@ -38,6 +40,7 @@ pub fn be32(s: &[u8], at: usize) -> u32
 }
 
 // The number of eight bytes at `at`, or 0 unless all are there.
+#[tactic(auto, using(crate::proofs::Readers::be_short, crate::proofs::Readers::be64_taken))]
 pub fn be64(s: &[u8], at: usize) -> u64
     ensures { result ≡ be_of 8 s.now at }
 {
@@ -45,6 +48,7 @@ pub fn be64(s: &[u8], at: usize) -> u64
 }
 
 // The number of eight bytes at `at`, the lowest byte first, or 0 unless all are there.
+#[tactic(auto, using(crate::proofs::Readers::le_short, crate::proofs::Readers::le64_taken))]
 pub fn le64(s: &[u8], at: usize) -> u64
     ensures { result ≡ le_of 8 s.now at }
 {
@@ -59,6 +63,7 @@ fn has(s: &[u8], at: usize, n: usize) -> bool
 }
 
 // Whether the eight bytes at `at` are there and are 0.
+#[tactic(auto, using(crate::proofs::Stored::filled_not, crate::proofs::Stored::filled_taken))]
 pub fn blank8(s: &[u8], at: usize) -> bool
     ensures { result ≡ filled 0 8 s.now at }
 {
@@ -66,6 +71,7 @@ pub fn blank8(s: &[u8], at: usize) -> bool
 }
 
 // Whether the eight bytes at `at` are there and are 255.
+#[tactic(auto, using(crate::proofs::Stored::filled_not, crate::proofs::Stored::filled_taken))]
 pub fn full8(s: &[u8], at: usize) -> bool
     ensures { result ≡ filled 255 8 s.now at }
 {
@@ -94,7 +100,7 @@ pub fn blank(s: &[u8]) -> bool
 }
 
 // Whether a and b hold the same bytes.
-#[tactic(auto, using(crate::proofs::Runs::pairs_same))]
+#[tactic(auto, using(crate::proofs::Runs::pairs_same, crate::proofs::Runs::parts_same))]
 pub fn same(a: &[u8], b: &[u8]) -> bool
     ensures { result ≡ same_bytes a.now b.now }
 {

@@ -4,7 +4,7 @@ use Prim.Native.Nat.{ℕ, ◌+◌, ◌≤◌, ◌<◌}
 use mathlib.Core.Path.{◌≡◌, refl, sym, ap, ◌∙◌}
 use mathlib.Core.Bool.{Bool, true, false, cond, not, ◌||◌}
 use mathlib.Core.List.{List, [], ◌∷◌, ◌++◌}
-use lib.ListN.{length, get_or, replicate, get_or-replicate}
+use lib.ListN.{length, get_or, replicate}
 use lib.Dec.{ltb}
 use borrow.Author.Tests.{eq-eqb}
 use native.Mathlib.Omega.{arith}
@@ -17,6 +17,7 @@ use Rattle.numbers.specs.declared.Instant.{Instant}
 use Rattle.slice.specs.Record.{record_size, Slice}
 use Rattle.slice.specs.Check.{Checked, refused}
 use Rattle.std.specs.Prelude.{Result, Ok, Err}
+use Rattle.std.specs.Bool.{OnTrue}
 use Rattle.slice.proofs.Sound.{refused_apart, refused_tells}
 use Rattle.table.specs.Header.{count_of, feature_of, stride_of}
 use Rattle.table.specs.Rules.{table_tests, check_table}
@@ -31,13 +32,13 @@ use Rattle.state.specs.Asking.{slices_of, permanent_tests, both_tests, check_bot
 use Rattle.state.specs.Asking.{Outcome, refused_outcome, outcome_of, permanent_state_of, snapshot_of, refused_place, place_at}
 use Rattle.state.specs.Asking.{Located, place_of}
 use Rattle.history.specs.Anchor.{stands}
-use Rattle.history.specs.Parts.{opens_due, latest_due, latest_valid}
-use Rattle.state.specs.Asking.{record_of, buffered, after_state, after_snapshot}
+use Rattle.history.specs.Parts.{opens_due, latest_due}
+use Rattle.state.specs.Asking.{record_of}
 use Rattle.slice.specs.Refusing.{number, told}
 use Rattle.slice.specs.declared.refusal.Refusal.{Refusal}
-use Rattle.state.specs.Steps.{Walkable, Stored, left_of, nothing, wanted, mark_due, place_and_one, tally_from, since_of}
+use Rattle.state.specs.Steps.{Walkable, Stored, left_of, nothing, wanted, mark_due, tally_from, since_of}
 use Rattle.state.specs.Steps.{standing_of}
-use Rattle.state.specs.Steps.{life_from, property_from, run_of, Known, Ready, Laid, placed_by}
+use Rattle.state.specs.Steps.{life_from, property_from, run_of, Known, Ready, Laid, coming, coming_at, placed_by}
 use Rattle.state.specs.Written.{state_kind, state_times}
 use Rattle.state.specs.declared.anchor.Few.{Few}
 use Rattle.state.specs.declared.anchor.Few.TheVariants.{Zero}
@@ -152,34 +153,34 @@ module _ (p t : List ℕ) (e : check_both p t ≡ Ok tt) where
   pub both_walkable : Walkable p
   both_walkable = sound_walkable p sides.Permanent (both_sound p t e).0
 
+  pub both_temporary : check_table sides.Temporary t ≡ Ok tt
+  both_temporary = (both_sound p t e).1
+
   pub both_whole : Whole t
-  both_whole = whole sides.Temporary t (both_sound p t e).1
+  both_whole = whole sides.Temporary t both_temporary
 
--- the places that a walk over the temporary table finds
-abbrev Valid : Instant → List ℕ → List ℕ → Type 0
-Valid at t os = (length os ≡ 8) × ((q : ℕ) → q < 8 → get_or os q 0 ≡ place_and_one (latest_valid q at (slices_of t)))
+-- the places of what comes on a state
+abbrev Coming : Bool → Instant → List ℕ → List ℕ → Type 0
+Coming snapshot at t os = (length os ≡ 8) × ((q : ℕ) → q < 8 → get_or os q 0 ≡ coming_at snapshot at t q)
 
-pub valid_known : (at : Instant) (t os : List ℕ) → Whole t → Valid at t os
-    → (length os ≡ 8) × Known (count_of t) (λ q. get_or os q 0)
-valid_known at t os roomy valid = (valid.0, λ q h. known_valid at t roomy q (get_or os q 0) (valid.1 q h))
+module _ (at : Instant) (t os : List ℕ) where
+  pub coming_known : (snapshot : Bool) → Whole t → Coming snapshot at t os → (length os ≡ 8) × Known (count_of t) (λ q. get_or os q 0)
+  coming_known true roomy places = (places.0, λ q h. known_valid at t roomy q (get_or os q 0) (places.1 q h))
+  coming_known false roomy places = (places.0, λ q h. let e = places.1 q h in omega arith)
 
-overlaid_none : (s : Standing) → overlaid [] s ≡ s
+  pub coming_laid : (snapshot : Bool) → OnTrue snapshot (check_table sides.Temporary t ≡ Ok tt) → Coming snapshot at t os
+      → Laid t os (coming snapshot at t)
+  coming_laid true sound places = laid_passing at t os sound places.1
+  coming_laid false _ places = laid_none t os places.1
+
+-- with nothing on it, the permanent state; with what is valid on it, the snapshot
+pub overlaid_none : (s : Standing) → overlaid [] s ≡ s
 overlaid_none (refuses n) = refl
 overlaid_none (known s) = refl
 
-module _ (o : Outcome) (p t os : List ℕ) (at : Instant) (old new : List ℕ)
-    (laid : (l : List Slice) → Laid t os l
-    → new ≡ buffered o (stride_of p) at (overlaid l (permanent_at at (slices_of p))) old) where
-  -- with nothing on it, the permanent state
-  pub leaves_state : os ≡ replicate 8 0 → new ≡ after_state o p at old
-  leaves_state e =
-      laid [] (laid_none t os (λ n h. rw e (get_or-replicate {A = ℕ} 8 n 0 0 h)))
-      ∙ ap (λ (s : Standing). buffered o (stride_of p) at s old) (overlaid_none (permanent_at at (slices_of p)))
-
-  -- with what is valid on it, the snapshot
-  pub leaves_snapshot : check_both p t ≡ Ok tt → Valid at t os → new ≡ after_snapshot o p t at old
-  unfolding snapshot_at
-  leaves_snapshot e valid = laid (passing at (slices_of t)) (laid_passing at t os (both_sound p t e).1 valid.1)
+pub overlaid_passing : (at : Instant) (ps ts : List Slice) → overlaid (passing at ts) (permanent_at at ps) ≡ snapshot_at at ps ts
+unfolding snapshot_at
+overlaid_passing at ps ts = refl
 
 -- ---- a state that is written, from what a survey of all properties and the search for the anchor found; the code tests by `none'`
 -- and `size`
@@ -246,7 +247,7 @@ module _ (t : Instant) (p o : List ℕ) (checked : check_both p o ≡ Ok tt) (n 
       (sym (ap (place_at p o t n)
       (settles_refused t p n (n + 1) bases openings ms walkable bases_is openings_is marks r e f is)))
 
-  module _ (x : Start) (is : r ≡ Ok x) (os : List ℕ) (valid : Valid t o os) where
+  module _ (x : Start) (is : r ≡ Ok x) (os : List ℕ) (valid : Coming true t o os) where
     pub places_asks : (n < 8) × Stored p x.place × ((get_or ms n nothing).from ≤ count_of p) × (get_or os n 0 ≤ 256)
     places_asks = (
       small,
@@ -273,9 +274,9 @@ module _ (t : Instant) (p o : List ℕ) (checked : check_both p o ≡ Ok tt) (n 
 -- ---- what the functions that ask cite
 pub ruleset checking_both = (checked_same, both_is, headed)
 
-pub ruleset asking_state = (checked_same, state_is, sound_walkable)
+pub ruleset asking_state = (checked_same, state_is, sound_walkable, overlaid_none)
 
-pub ruleset asking_snapshot = (snapshot_is, both_walkable, both_whole)
+pub ruleset asking_snapshot = (snapshot_is, both_walkable, both_whole, both_temporary, overlaid_passing)
 
 pub ruleset asking_place = (place_is, both_walkable, both_whole, few_within, places_refused, places_is)
 

@@ -14,7 +14,8 @@ use Rattle.table.specs.Header.{count_of, stride_of, record_at}
 use Rattle.table.specs.Steps.{Whole}
 use Rattle.history.specs.Counted.{counts, holds, slice_key}
 use Rattle.history.specs.Period.{begin_of}
-use Rattle.history.specs.Parts.{begun, tells, Placed, pass_from}
+use Rattle.history.specs.Parts.{begun, tells, Placed, pass_from, latest_valid}
+use Rattle.history.specs.Snapshot.{passing}
 use Rattle.history.specs.Source.{last_mention}
 use Rattle.history.specs.Permanent as State
 use Rattle.history.specs.Permanent.{Turn, turn_less}
@@ -262,6 +263,14 @@ pub record Laid (t : List ℕ) (os : List ℕ) (l : List Slice) : Type 0 where
   pub last : (n : ℕ) → n < 8 → last_mention n l ≡ slice_no t (get_or os n 0)
   pub eight : (d : Slice) → In d l → length d.properties ≡ 8
   pub lifeless : (d : Slice) → In d l → Lifeless d
+
+-- what comes on a state: for a snapshot what is valid in the temporary table, else nothing; of a property, the place of its last
+-- mention and one
+abbrev pub coming : Bool → Instant → List ℕ → List Slice
+coming snapshot at t = cond snapshot (passing at (slices_of t)) []
+
+abbrev pub coming_at : Bool → Instant → List ℕ → ℕ → ℕ
+coming_at snapshot at t q = cond snapshot (place_and_one (latest_valid q at (slices_of t))) 0
 
 -- ---- where a property begins
 -- property n of a record, by the record's place and one

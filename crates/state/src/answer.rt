@@ -1,14 +1,16 @@
 // The permanent state and the snapshot, written as a record.
-ghost use Rattle.std.specs.Prelude.{◌≡◌, List, length, get_or};
-ghost use Rattle.slice.specs.Record.{Slice};
+ghost use Rattle.std.specs.Prelude.{◌≡◌, ℕ, ◌<◌, Ok, length, get_or};
+ghost use Rattle.std.specs.Bool.{OnTrue};
 ghost use Rattle.slice.specs.Refusing.{told};
-ghost use Rattle.table.specs.Header.{count_of, stride_of};
+ghost use Rattle.table.specs.Header.{stride_of};
+ghost use Rattle.table.specs.Rules.{check_table};
+ghost use Rattle.table.specs.declared.check.Sides.TheVariants.{Temporary};
 ghost use Rattle.table.specs.Steps.{Whole};
 ghost use Rattle.history.specs.Permanent.{permanent_at};
 ghost use Rattle.history.specs.Snapshot.{overlaid};
 ghost use Rattle.state.specs.Asking.{slices_of, check_both, permanent_state_of, snapshot_of};
 ghost use Rattle.state.specs.Asking.{outcome_reply, buffered, after_state, after_snapshot};
-ghost use Rattle.state.specs.Steps.{Walkable, Known, Laid, left_of};
+ghost use Rattle.state.specs.Steps.{Walkable, coming, coming_at, left_of};
 
 use crate::anchor::settle;
 use crate::overlay::overlay;
@@ -33,7 +35,20 @@ pub(crate) fn check_both(permanent: &[u8], temporary: &[u8]) -> Result<(), Refus
     Ok(())
 }
 
-// Behind the check of the tables: writes the state at an instant, with the properties that stand in the
+// What comes on a state, of each property its place in the temporary table and one: for a snapshot what is
+// valid there; else nothing, 0.
+fn passing_of(temporary: &[u8], instant: Instant, is_snapshot: bool) -> [usize; 8]
+    requires { Whole temporary.now }
+    ensures { (length result ≡ 8)
+        × ((q : ℕ) → q < 8 → get_or result q 0 ≡ coming_at is_snapshot instant temporary.now q) }
+{
+    if is_snapshot {
+        return overlay(temporary, instant);
+    }
+    [0; 8]
+}
+
+// Behind the check of the tables: writes the state at an instant, or the snapshot, with what is valid in the
 // temporary table. Refused, with every byte as it was: 19, 23, and then as the state stands.
 #[tactic(auto, using(crate::proofs::Stages::writing), unfolding(crate::specs::Asking::misfits))]
 fn write_state(
@@ -41,15 +56,15 @@ fn write_state(
     temporary: &[u8],
     instant: Instant,
     record: &mut [u8],
-    passing: [usize; 8],
+    is_snapshot: bool,
 ) -> Result<(), Refusal>
     requires tables { Walkable permanent.now × Whole temporary.now }
-    requires places { (length passing ≡ 8) × Known (count_of temporary.now) (λ q. get_or passing q 0) }
+    requires sound { OnTrue is_snapshot (check_table Temporary temporary.now ≡ Ok tt) }
     ensures answer { told result
         ≡ left_of permanent.now instant «record».old (permanent_at instant (slices_of permanent.now)) }
-    ensures buffer { (l : List Slice) → Laid temporary.now passing l → «record».new
-        ≡ buffered (told result) (stride_of permanent.now) instant
-        (overlaid l (permanent_at instant (slices_of permanent.now))) «record».old }
+    ensures buffer { «record».new ≡ buffered (told result) (stride_of permanent.now) instant
+        (overlaid (coming is_snapshot instant temporary.now) (permanent_at instant (slices_of permanent.now)))
+        «record».old }
 {
     if instant.is_none() {
         return Err(Refusal::InstantOrProperty);
@@ -59,6 +74,7 @@ fn write_state(
     }
     let found = survey_permanent(permanent, instant, 0, 8);
     let start = settle(permanent, instant, found)?;
+    let passing = passing_of(temporary, instant, is_snapshot);
     put_state(
         record,
         permanent,
@@ -80,7 +96,7 @@ pub fn permanent_state(permanent: &[u8], instant: Instant, record: &mut [u8]) ->
     ensures buffer { «record».new ≡ after_state (told result) permanent.now instant «record».old }
 {
     check_table(permanent, Sides::Permanent)?;
-    write_state(permanent, permanent, instant, record, [0; 8])
+    write_state(permanent, permanent, instant, record, false)
 }
 
 // Writes the snapshot at an instant into a record of the tables' size: the permanent state with the
@@ -100,11 +116,5 @@ pub fn snapshot(
         «record».old }
 {
     check_both(permanent, temporary)?;
-    write_state(
-        permanent,
-        temporary,
-        instant,
-        record,
-        overlay(temporary, instant),
-    )
+    write_state(permanent, temporary, instant, record, true)
 }

@@ -1,4 +1,5 @@
--- What crosses to C loses nothing: replies of equal numbers are equal, and so are the answers that they are of. Assumes nothing.
+-- What crosses to C loses nothing: replies of equal numbers are equal, and so are the answers that they are of. Each law is said
+-- twice: of answers with any number, as the definitions have them, and of the answers that the functions return. Assumes nothing.
 use Prim.Native.Nat.{ℕ, zero, suc}
 use mathlib.Core.Path.{◌≡◌, refl, sym, ap, ◌∙◌}
 use mathlib.Core.List.{List}
@@ -10,19 +11,20 @@ use Rattle.std.specs.Prelude.{Result, Ok, Err}
 use Rattle.slice.specs.Refusing.{told}
 use Rattle.slice.specs.Check.{checked_reply}
 use Rattle.slice.specs.declared.refusal.Refusal.{Refusal}
+use Rattle.slice.proofs.Replies.{told_tells}
 use Rattle.table.specs.Arriving.{Creation, creation_reply, Arrived, arrival_reply}
 use Rattle.table.specs.declared.arrival.Arrival.{Arrival}
 use Rattle.table.specs.declared.arrival.Arrival.TheVariants as arrival
-use Rattle.table.proofs.Replies.{creation_told, arrival_told}
+use Rattle.table.proofs.Replies.{creation_same, arrival_same}
 use Rattle.state.specs.Asking.{Outcome, outcome_reply, Located, place_reply}
 use Rattle.state.specs.declared.question.Place.{Place}
 use Rattle.state.specs.declared.question.Place.TheVariants as place
 use Rattle.state.specs.Touched.{Looked, touched_reply}
 use Rattle.state.specs.declared.looking.Touched.{Touched}
 use Rattle.state.specs.declared.looking.Touched.TheVariants as touched
-use Rattle.state.proofs.Replies.{outcome_told, place_told, touched_told}
+use Rattle.state.proofs.Replies.{outcome_same, place_same, touched_same}
 use Rattle.baselines.specs.Deriving.{Derivation, derivation_reply}
-use Rattle.baselines.proofs.Replies.{derivation_told}
+use Rattle.baselines.proofs.Replies.{derivation_same}
 use Rattle.text.specs.Listing.{Listing, listing_reply}
 use Rattle.text.proofs.Replies.{listing_told}
 
@@ -74,8 +76,11 @@ creation_checked (Ok _) = refl
 creation_checked (Err n) = refl
 
 -- new tables whose numbers in C are equal are the same answer
-pub creation_crosses : (a b : Result Unit Refusal) → numbers_of (creation_reply (told a)) ≡ numbers_of (creation_reply (told b)) → a ≡ b
-creation_crosses a b e = creation_told a b (numbers_told _ _ (creation_counted (told a)) (creation_counted (told b)) e)
+pub creation_crosses : (a b : Creation) → numbers_of (creation_reply a) ≡ numbers_of (creation_reply b) → a ≡ b
+creation_crosses a b e = creation_same a b (numbers_told _ _ (creation_counted a) (creation_counted b) e)
+
+pub creation_told_crosses : (a b : Result Unit Refusal) → numbers_of (creation_reply (told a)) ≡ numbers_of (creation_reply (told b)) → a ≡ b
+creation_told_crosses a b e = told_tells a b (creation_crosses (told a) (told b) e)
 
 -- ---- an arrival
 arrival_counted : (a : Arrived) → Counted (arrival_reply a)
@@ -87,8 +92,11 @@ arrival_counted (Ok arrival.Repeat) = tt
 arrival_counted (Err n) = tt
 
 -- and arrivals
-pub arrival_crosses : (a b : Result Arrival Refusal) → numbers_of (arrival_reply (told a)) ≡ numbers_of (arrival_reply (told b)) → a ≡ b
-arrival_crosses a b e = arrival_told a b (numbers_told _ _ (arrival_counted (told a)) (arrival_counted (told b)) e)
+pub arrival_crosses : (a b : Arrived) → numbers_of (arrival_reply a) ≡ numbers_of (arrival_reply b) → a ≡ b
+arrival_crosses a b e = arrival_same a b (numbers_told _ _ (arrival_counted a) (arrival_counted b) e)
+
+pub arrival_told_crosses : (a b : Result Arrival Refusal) → numbers_of (arrival_reply (told a)) ≡ numbers_of (arrival_reply (told b)) → a ≡ b
+arrival_told_crosses a b e = told_tells a b (arrival_crosses (told a) (told b) e)
 
 -- ---- a state or a snapshot
 outcome_counted : (a : Outcome) → Counted (outcome_reply a)
@@ -103,8 +111,11 @@ outcome_checked (Ok _) = refl
 outcome_checked (Err n) = refl
 
 -- and outcomes
-pub outcome_crosses : (a b : Result Unit Refusal) → numbers_of (outcome_reply (told a)) ≡ numbers_of (outcome_reply (told b)) → a ≡ b
-outcome_crosses a b e = outcome_told a b (numbers_told _ _ (outcome_counted (told a)) (outcome_counted (told b)) e)
+pub outcome_crosses : (a b : Outcome) → numbers_of (outcome_reply a) ≡ numbers_of (outcome_reply b) → a ≡ b
+outcome_crosses a b e = outcome_same a b (numbers_told _ _ (outcome_counted a) (outcome_counted b) e)
+
+pub outcome_told_crosses : (a b : Result Unit Refusal) → numbers_of (outcome_reply (told a)) ≡ numbers_of (outcome_reply (told b)) → a ≡ b
+outcome_told_crosses a b e = told_tells a b (outcome_crosses (told a) (told b) e)
 
 -- ---- whether anything temporary touches a property
 touched_counted : (a : Looked) → Counted (touched_reply a)
@@ -114,8 +125,11 @@ touched_counted (Ok (touched.No n)) = tt
 touched_counted (Err n) = tt
 
 -- and answers of yes and no, with their counts
-pub touched_crosses : (a b : Result Touched Refusal) → numbers_of (touched_reply (told a)) ≡ numbers_of (touched_reply (told b)) → a ≡ b
-touched_crosses a b e = touched_told a b (numbers_told _ _ (touched_counted (told a)) (touched_counted (told b)) e)
+pub touched_crosses : (a b : Looked) → numbers_of (touched_reply a) ≡ numbers_of (touched_reply b) → a ≡ b
+touched_crosses a b e = touched_same a b (numbers_told _ _ (touched_counted a) (touched_counted b) e)
+
+pub touched_told_crosses : (a b : Result Touched Refusal) → numbers_of (touched_reply (told a)) ≡ numbers_of (touched_reply (told b)) → a ≡ b
+touched_told_crosses a b e = told_tells a b (touched_crosses (told a) (told b) e)
 
 -- ---- a derivation
 derivation_counted : (a : Derivation) → Counted (derivation_reply a)
@@ -124,8 +138,11 @@ derivation_counted (Ok n) = tt
 derivation_counted (Err n) = tt
 
 -- and derivations
-pub derivation_crosses : (a b : Result ℕ Refusal) → numbers_of (derivation_reply (told a)) ≡ numbers_of (derivation_reply (told b)) → a ≡ b
-derivation_crosses a b e = derivation_told a b (numbers_told _ _ (derivation_counted (told a)) (derivation_counted (told b)) e)
+pub derivation_crosses : (a b : Derivation) → numbers_of (derivation_reply a) ≡ numbers_of (derivation_reply b) → a ≡ b
+derivation_crosses a b e = derivation_same a b (numbers_told _ _ (derivation_counted a) (derivation_counted b) e)
+
+pub derivation_told_crosses : (a b : Result ℕ Refusal) → numbers_of (derivation_reply (told a)) ≡ numbers_of (derivation_reply (told b)) → a ≡ b
+derivation_told_crosses a b e = told_tells a b (derivation_crosses (told a) (told b) e)
 
 -- ---- a listing
 listing_counted : (a : Listing) → Counted (listing_reply a)
@@ -146,6 +163,9 @@ place_counted (Ok place.Unmentioned) = tt
 place_counted (Err n) = tt
 
 -- places whose parts in C are equal are the same answer, whatever the tables
-pub place_crosses : (p t : List ℕ) (a b : Result Place Refusal)
+pub place_crosses : (p t : List ℕ) (a b : Located) → part_of p t (place_reply a) ≡ part_of p t (place_reply b) → a ≡ b
+place_crosses p t a b e = place_same a b (part_told p t _ _ (place_counted a) (place_counted b) e)
+
+pub place_told_crosses : (p t : List ℕ) (a b : Result Place Refusal)
     → part_of p t (place_reply (told a)) ≡ part_of p t (place_reply (told b)) → a ≡ b
-place_crosses p t a b e = place_told a b (part_told p t _ _ (place_counted (told a)) (place_counted (told b)) e)
+place_told_crosses p t a b e = told_tells a b (place_crosses p t (told a) (told b) e)

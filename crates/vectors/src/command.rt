@@ -1,4 +1,6 @@
 // A line of the input: a letter, and pairs of hexadecimal digits.
+ghost use Rattle.std.specs.Prelude.{◌<◌, IfSome};
+
 use numbers::Instant;
 use std::alloc::AllocError;
 use table::Sides;
@@ -114,7 +116,9 @@ fn byte_of(pair: &[u8]) -> Option<u8> {
 }
 
 // The number of a hexadecimal digit, if it is one. A capital letter is none.
-fn digit(c: u8) -> Option<u8> {
+fn digit(c: u8) -> Option<u8>
+    ensures { IfSome result (λ n. n < 16) }
+{
     match c {
         b'0'..=b'9' => Some(c - b'0'),
         b'a'..=b'f' => Some(c - b'a' + 10),

@@ -1,8 +1,10 @@
 // What the commands are about: the bytes that they make, and the answers.
+ghost use Rattle.std.specs.Prelude.{◌≤◌, length};
+
 use crate::answers::Answers;
 use crate::command::Command;
 use crate::replies;
-use crate::replies::{Changes, Found, Line};
+use crate::replies::Line;
 use numbers::Instant;
 use std::alloc::{AllocError, Global};
 use std::{fmt, mem};
@@ -19,7 +21,7 @@ const OUTPUT: usize = 65_536;
 const STRIDE: usize = 24;
 
 // The bytes that commands make, and the answers. `before` is the table before the last question that may
-// change it, or that checks it.
+// change it, or that checks it; `kept` is the record or the output before the last question that may change it.
 #[derive(Drop)]
 pub struct Machine {
     buffer: Vec<u8>,
@@ -29,14 +31,15 @@ pub struct Machine {
     before: Vec<u8>,
     record: Vec<u8>,
     output: Vec<u8>,
+    kept: Vec<u8>,
     instant: Instant,
     answers: Answers,
 }
 
 impl Machine {
     // The machine before the first command.
-    pub fn new(alloc: Global) -> Machine {
-        Machine {
+    pub fn new(alloc: Global) -> Result<Machine, AllocError> {
+        Ok(Machine {
             buffer: Vec::new(alloc),
             feature: Vec::new(alloc),
             table: Vec::new(alloc),
@@ -44,13 +47,16 @@ impl Machine {
             before: Vec::new(alloc),
             record: Vec::new(alloc),
             output: Vec::new(alloc),
+            kept: Vec::new(alloc),
             instant: Instant(0),
-            answers: Answers::new(alloc),
-        }
+            answers: Answers::new(alloc)?,
+        })
     }
 
     // The text of the answers.
-    pub fn answers(&self) -> &[u8] {
+    pub fn answers(&self) -> &[u8]
+        ensures { length result.now ≤ 3145728 }
+    {
         self.answers.as_bytes()
     }
 
@@ -136,42 +142,53 @@ impl Machine {
             *to = *from;
         }
         let creation = table::new_table(&mut self.table, side, &feature);
-        let changes = Changes(&self.before, &self.table);
-        writeln!(self.answers, "{}{changes}", replies::created(creation))
+        write!(self.answers, "{}", replies::created(creation))?;
+        self.answers.put_changes(&self.before, &self.table)
     }
 
     // Asks for the arrival of the buffer at the table.
     fn arrive(&mut self) -> fmt::Result {
         copy(&mut self.before, &self.table)?;
         let arrival = table::arrive(&mut self.table, &self.buffer);
-        let changes = Changes(&self.before, &self.table);
-        writeln!(self.answers, "{}{changes}", replies::arrived(arrival))
+        write!(self.answers, "{}", replies::arrived(arrival))?;
+        self.answers.put_changes(&self.before, &self.table)
     }
 
     // Asks for the permanent state, into the record.
     fn permanent_state(&mut self) -> fmt::Result {
-        let before = self.record.clone()?;
+        copy(&mut self.kept, &self.record)?;
         let outcome = state::permanent_state(&self.table, self.instant, &mut self.record);
-        let changes = Changes(&before, &self.record);
-        writeln!(self.answers, "{}{changes}", replies::written(outcome))
+        write!(self.answers, "{}", replies::written(outcome))?;
+        self.answers.put_changes(&self.kept, &self.record)
     }
 
     // Asks for the snapshot, into the record.
     fn snapshot(&mut self) -> fmt::Result {
-        let before = self.record.clone()?;
+        copy(&mut self.kept, &self.record)?;
         let outcome = state::snapshot(&self.table, &self.other, self.instant, &mut self.record);
-        let changes = Changes(&before, &self.record);
-        writeln!(self.answers, "{}{changes}", replies::written(outcome))
+        write!(self.answers, "{}", replies::written(outcome))?;
+        self.answers.put_changes(&self.kept, &self.record)
     }
 
     // Asks for a property, by the three questions about it.
     fn property(&mut self, number: u8) -> fmt::Result {
-        let found = Found {
-            place: state::locate(&self.table, &self.other, self.instant, number),
-            source: state::source_of(&self.table, &self.other, self.instant, number),
-            bytes: state::property(&self.table, &self.other, self.instant, number),
-        };
-        writeln!(self.answers, "{found}")
+        let place = state::locate(&self.table, &self.other, self.instant, number);
+        let source = state::source_of(&self.table, &self.other, self.instant, number);
+        let bytes = state::property(&self.table, &self.other, self.instant, number);
+        let (table, offset) = replies::placed(place);
+        let named = replies::named(source);
+        write!(self.answers, "{table}")?;
+        if let Some(offset) = offset {
+            write!(self.answers, " {offset}")?;
+        }
+        if !bytes.is_empty() {
+            self.answers.put(b" ")?;
+            self.answers.put_bytes(bytes)?;
+        }
+        if table.0 != named.0 {
+            write!(self.answers, " but {named}")?;
+        }
+        self.answers.put(b"\n")
     }
 
     // Asks whether the other table, as the temporary one, touches a property.
@@ -182,18 +199,18 @@ impl Machine {
 
     // Asks for the derived baselines of the table, into the output.
     fn derive(&mut self) -> fmt::Result {
-        let before = self.output.clone()?;
+        copy(&mut self.kept, &self.output)?;
         let derivation = baselines::derive(&self.table, &mut self.output);
-        let changes = Changes(&before, &self.output);
-        writeln!(self.answers, "{}{changes}", replies::derived(derivation))
+        write!(self.answers, "{}", replies::derived(derivation))?;
+        self.answers.put_changes(&self.kept, &self.output)
     }
 
     // Asks for the listing of the table, into the output.
     fn list(&mut self) -> fmt::Result {
-        let before = self.output.clone()?;
+        copy(&mut self.kept, &self.output)?;
         let listing = text::list(&self.table, &mut self.output);
-        let changes = Changes(&before, &self.output);
-        writeln!(self.answers, "{}{changes}", replies::listed(listing))
+        write!(self.answers, "{}", replies::listed(listing))?;
+        self.answers.put_changes(&self.kept, &self.output)
     }
 }
 

@@ -46,9 +46,12 @@ use std::io::{Read, Write};
 // How many bytes of the input are read.
 const INPUT: u64 = 4_194_304;
 
+// Room for the input, and for one more read behind it, so that it is never moved.
+const ROOM: usize = 4_194_304 + 512;
+
 // Obeys each line of the input, and answers the machine as they leave it.
 fn run(alloc: Global, input: &[u8]) -> io::Result<Machine> {
-    let mut machine = Machine::new(alloc);
+    let mut machine = Machine::new(alloc)?;
     let mut bytes = Vec::new(alloc);
     for line in input.split(|byte| *byte == b'\n') {
         if let Some(command) = Command::read(line, &mut bytes)? {
@@ -60,7 +63,7 @@ fn run(alloc: Global, input: &[u8]) -> io::Result<Machine> {
 
 // Obeys the commands of standard input, and writes the answers.
 fn main(rt: HostRuntime) -> io::Result<()> {
-    let mut input = Vec::new(rt.alloc());
+    let mut input = Vec::with_capacity(rt.alloc(), ROOM)?;
     rt.stdin().take(INPUT).read_to_end(&mut input)?;
     let machine = run(rt.alloc(), &input)?;
     rt.stdout().write_all(machine.answers())

@@ -1,9 +1,10 @@
 // What the library answers, as it is printed. What prints as one piece is written whole or not at all.
+use crate::answers::digit_of;
 use property::{FirstBad, LengthUnit, Value};
 use slice::Refusal;
 use state::{Place, Source, Touched};
-use std::fmt;
-use std::fmt::{Display, Formatter, InlineText, Write};
+use std::fmt::{Display, Formatter, Write};
+use std::{fmt, str};
 use table::Arrival;
 use text::Needs;
 
@@ -86,7 +87,7 @@ pub fn surveyed(survey: Result<usize, FirstBad>) -> Counted {
 }
 
 // Which table a property's bytes are in, and where in it, if they are in one.
-fn placed(place: Result<Place, Refusal>) -> (Reply<&'static str>, Option<usize>) {
+pub fn placed(place: Result<Place, Refusal>) -> (Reply<&'static str>, Option<usize>) {
     match place {
         Ok(Place::Permanent(offset)) => (Reply(Ok("permanent")), Some(offset)),
         Ok(Place::Temporary(offset)) => (Reply(Ok("temporary")), Some(offset)),
@@ -96,81 +97,12 @@ fn placed(place: Result<Place, Refusal>) -> (Reply<&'static str>, Option<usize>)
 }
 
 // Which table is named for a property.
-fn named(source: Result<Source, Refusal>) -> Reply<&'static str> {
+pub fn named(source: Result<Source, Refusal>) -> Reply<&'static str> {
     Reply(source.map(|table| match table {
         Source::Permanent => "permanent",
         Source::Temporary => "temporary",
         Source::Unmentioned => "unmentioned",
     }))
-}
-
-// What the three questions about a property answer: where it is, which table has it, and its bytes.
-#[derive(Clone, Copy)]
-pub struct Found<'a> {
-    pub place: Result<Place, Refusal>,
-    pub source: Result<Source, Refusal>,
-    pub bytes: &'a [u8],
-}
-
-impl Display for Found<'_> {
-    fn fmt<W: Write>(&self, f: &mut Formatter<W>) -> fmt::Result {
-        let (table, offset) = placed(self.place);
-        let named = named(self.source);
-        table.fmt(f)?;
-        if let Some(offset) = offset {
-            write!(f, " {offset}")?;
-        }
-        if !self.bytes.is_empty() {
-            write!(f, " {}", Bytes(self.bytes))?;
-        }
-        if table.0 != named.0 {
-            write!(f, " but {named}")?;
-        }
-        Ok(())
-    }
-}
-
-// The bytes that a call changed, from what they were to what they are: each run of them behind its place.
-#[derive(Clone, Copy)]
-pub struct Changes<'a>(pub &'a [u8], pub &'a [u8]);
-
-impl Display for Changes<'_> {
-    fn fmt<W: Write>(&self, f: &mut Formatter<W>) -> fmt::Result {
-        let mut end = None;
-        for (place, (old, new)) in self.0.iter().zip(self.1).enumerate() {
-            if old != new {
-                if end != Some(place) {
-                    write!(f, " {place}:")?;
-                }
-                Byte(*new).fmt(f)?;
-                end = place.checked_add(1);
-            }
-        }
-        Ok(())
-    }
-}
-
-// Bytes as hexadecimal digits.
-#[derive(Clone, Copy)]
-struct Bytes<'a>(&'a [u8]);
-
-impl Display for Bytes<'_> {
-    fn fmt<W: Write>(&self, f: &mut Formatter<W>) -> fmt::Result {
-        for byte in self.0 {
-            Byte(*byte).fmt(f)?;
-        }
-        Ok(())
-    }
-}
-
-// A byte as two hexadecimal digits, one piece.
-#[derive(Clone, Copy)]
-struct Byte(u8);
-
-impl Display for Byte {
-    fn fmt<W: Write>(&self, f: &mut Formatter<W>) -> fmt::Result {
-        f.write_str(InlineText::<2>::of(format_args!("{:02x}", self.0)).as_str())
-    }
 }
 
 // The bits of a double as 16 hexadecimal digits, one piece. Each NaN prints as one NaN.
@@ -184,7 +116,16 @@ impl Display for Bits {
         } else {
             self.0.to_bits()
         };
-        f.write_str(InlineText::<16>::of(format_args!("{bits:016x}")).as_str())
+        let mut digits = [b'0'; 16];
+        let mut rest = bits;
+        for place in (0..16).rev() {
+            digits[place] = digit_of((rest % 16) as u8);
+            rest /= 16;
+        }
+        match str::from_utf8(&digits) {
+            Ok(text) => f.write_str(text),
+            Err(_) => Err(fmt::Error),
+        }
     }
 }
 

@@ -17,7 +17,7 @@ use Rattle.state.proofs.Marks.{noted_start, noted_turn, noted_end, place_turn, k
 use Rattle.state.proofs.OnePass.{among_in}
 use Rattle.state.proofs.Views.{valid_holding}
 use Rattle.state.proofs.overlay.overlay.Goals as goal
-use Rattle.state.proofs.overlay.overlay.Goals.{then-is_holding+else-loop-n-test, else-is_holding, then-mentions, else-mentions}
+use Rattle.state.proofs.overlay.overlay.Goals.{then-is_holding+else-loop-n-test, else-is_holding}
 
 -- the place of a property, and one, with that of a slice where it mentions it
 abbrev step : Slice → ℕ → ℕ → ℕ → ℕ
@@ -37,15 +37,9 @@ loop-n-preserved c =
     let n = c.loop-n.n in
     let ms = c.loop-n.place-items in
     let here = view_of c.stride_of-stride.result c.record_at-record.result.now in (
-      length-set ms n c.if-mentions.place ∙ c.loop-n.invariant.0,
-      noted_turn 0 0 (step here c.loop-i.i) c.loop-i.places ms n c.if-mentions.place (omega arith)
-          (omega arith) c.loop-n.invariant.1
-          (elim c.if-mentions.branch [
-            | then-mentions w ↦ w.place-is
-                ∙ ap (λ b. cond b (c.loop-i.i + 1) (get_or ms n 0)) (sym w.if-mentions.true ∙ c.mentions.ensures)
-            | else-mentions w ↦ w.place-is
-                ∙ ap (λ b. cond b (c.loop-i.i + 1) (get_or ms n 0)) (sym w.if-mentions.false ∙ c.mentions.ensures)
-          ]),
+      length-set ms n _ ∙ c.loop-n.invariant.0,
+      noted_turn 0 0 (step here c.loop-i.i) c.loop-i.places ms n _ (omega arith) (omega arith) c.loop-n.invariant.1
+          (grind (arith, c.mentions.ensures)),
     )
 
 pub loop-i-preserved : goal.loop-i-preserved

@@ -1,6 +1,0 @@
--- `octets::be16` meets its contract: the number of the bytes that are there. Assumes nothing.
-use Rattle.octets.proofs.Readers.{be16_found}
-use Rattle.octets.proofs.be16.Goals as goal
-
-pub returns : goal.returns
-returns c = be16_found c.args.s.now c.args.at c.array_at.result c.map_or.result c.array_at.ensures c.map_or.ensures
