@@ -37,10 +37,19 @@ impl Answers {
         Ok(())
     }
 
+    // Adds the two hexadecimal digits of a byte, or nothing where there is no room for both.
+    fn put_byte(&mut self, byte: u8) -> Result<(), AllocError> {
+        if 2 <= ROOM.saturating_sub(self.text.len()) {
+            self.text.push(digit_of(byte / 16))?;
+            self.text.push(digit_of(byte % 16))?;
+        }
+        Ok(())
+    }
+
     // Adds bytes as hexadecimal digits. The two of a byte are one piece.
     pub fn put_bytes(&mut self, bytes: &[u8]) -> fmt::Result {
         for byte in bytes {
-            self.put(&pair_of(*byte))?;
+            self.put_byte(*byte)?;
         }
         Ok(())
     }
@@ -54,7 +63,7 @@ impl Answers {
                 if end != Some(place) {
                     write!(self, " {place}:")?;
                 }
-                self.put(&pair_of(*new))?;
+                self.put_byte(*new)?;
                 end = place.checked_add(1);
             }
         }
@@ -74,13 +83,8 @@ impl fmt::Write for Answers {
     }
 }
 
-// The two hexadecimal digits of a byte.
-fn pair_of(byte: u8) -> [u8; 2] {
-    [digit_of(byte / 16), digit_of(byte % 16)]
-}
-
 // The hexadecimal digit of a number below 16.
-pub fn digit_of(n: u8) -> u8
+pub(crate) fn digit_of(n: u8) -> u8
     requires { n < 16 }
 {
     if n < 10 { b'0' + n } else { b'a' + (n - 10) }
